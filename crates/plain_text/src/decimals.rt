@@ -1,0 +1,40 @@
+//! Counts that are read and seconds that are written.
+ghost use Rattle.std.specs.Prelude.{◌≡◌, ◌++◌, OnOk, OnErr};
+ghost use Rattle.plain_text.specs.Decimals.{count_of, seconds};
+
+use objective::Memory;
+use std::alloc::Global;
+use std::str;
+
+/// Reads a count: one or more decimal digits. None exactly where the text is anything
+/// else or the number exceeds the greatest u64. Takes no memory.
+pub fn read_count(text: &[u8]) -> Option<u64>
+    ensures { result ≡ count_of text.now }
+{
+    for digit in text {
+        if !digit.is_ascii_digit() {
+            return None;
+        }
+    }
+    match str::from_utf8(text) {
+        Ok(digits) => digits.parse::<u64>().ok(),
+        Err(_) => None,
+    }
+}
+
+/// Appends a time in microseconds as whole seconds, a point and six digits.
+pub fn push_seconds(alloc: Global, out: &mut Vec<u8>, micros: u64) -> Result<(), Memory>
+    ensures ok { OnOk result (out.new.items ≡ out.old.items ++ seconds micros) }
+    ensures err { OnErr result (out.new.items ≡ out.old.items) }
+{
+    let whole = micros / 1_000_000;
+    let (a, b, c) = (
+        micros / 100_000 % 10,
+        micros / 10_000 % 10,
+        micros / 1000 % 10,
+    );
+    let (d, e, f) = (micros / 100 % 10, micros / 10 % 10, micros % 10);
+    let text = format!(in alloc; "{whole}.{a}{b}{c}{d}{e}{f}")?;
+    out.extend_from_slice(text.as_bytes())?;
+    Ok(())
+}

@@ -1,0 +1,34 @@
+//! A list of values that contracts see as a list.
+ghost use Rattle.std.specs.Prelude.{◌≡◌};
+
+use std::marker::Model;
+
+/// A list that contracts see as the list of its values. It keeps its allocator.
+#[derive(Drop)]
+pub struct Items<T> {
+    inner: Vec<T>,
+}
+
+impl<T> Model for Items<T> {
+    ghost use Rattle.std.specs.Prelude.{List};
+
+    ghost Value = { List T };
+
+    ghost view = { λ s. s.inner.items };
+}
+
+impl<T> Items<T> {
+    /// The list of these values. Takes no memory.
+    pub fn new(inner: Vec<T>) -> Items<T>
+        ensures { result ≡ inner.items }
+    {
+        Items { inner }
+    }
+
+    /// The values in order.
+    pub fn as_slice(&self) -> &[T]
+        ensures { result.now ≡ self.now }
+    {
+        self.inner.as_slice()
+    }
+}

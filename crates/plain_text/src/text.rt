@@ -1,0 +1,54 @@
+//! A text that contracts see as its bytes.
+ghost use Rattle.std.specs.Prelude.{◌≡◌, IfOk, string_bytes};
+
+use objective::Memory;
+use std::alloc::Global;
+use std::marker::Model;
+
+/// A UTF-8 text that contracts see as the list of its bytes. It keeps its allocator.
+#[derive(Drop)]
+pub struct Text {
+    inner: String,
+}
+
+impl Model for Text {
+    ghost use Rattle.std.specs.Prelude.{List, ℕ, string_bytes};
+
+    ghost Value = { List ℕ };
+
+    ghost view = { λ t. string_bytes t.inner };
+}
+
+impl Text {
+    /// This text. Takes no memory.
+    pub fn new(inner: String) -> Text
+        ensures { result ≡ string_bytes inner }
+    {
+        Text { inner }
+    }
+
+    /// A copy of these characters.
+    pub fn of(alloc: Global, characters: &str) -> Result<Text, Memory>
+        ensures { IfOk result (λ t. t ≡ characters.now) }
+    {
+        Ok(Text {
+            inner: String::from_str(alloc, characters)?,
+        })
+    }
+
+    /// The characters.
+    pub fn as_str(&self) -> &str
+        ensures { result.now ≡ self.now }
+    {
+        self.inner.as_str()
+    }
+
+    /// The same text.
+    pub fn copy(&self) -> Result<Text, Memory>
+        ensures { IfOk result (λ t. t ≡ self.now) }
+    {
+        Ok(Text {
+            inner: self.inner.clone()?,
+        })
+    }
+}
