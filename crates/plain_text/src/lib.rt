@@ -1,12 +1,16 @@
 //! Texts and lists as contracts see them, words, and numbers as text.
 #![tactic(auto)]
 
+mod cuts;
 mod decimals;
 mod items;
+mod parts;
 mod text;
 mod words;
 
+pub use cuts::{after_prefix, before_suffix, parted};
 pub use decimals::{push_seconds, read_count};
 pub use items::Items;
+pub use parts::{ended_lines, pieces};
 pub use text::Text;
 pub use words::{is_blank, is_word, is_word_byte};

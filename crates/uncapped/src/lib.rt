@@ -1,13 +1,4 @@
-// A library with one function.
+//! The uncapped procedure, as definitions that contracts cite: the ParamILS framework of
+//! Hutter, Hoos, Leyton-Brown and Stützle, JAIR 36 (2009), in which every evaluation is
+//! made in full, one run after another. There is no code here.
 #![tactic(auto)]
-
-ghost use Rattle.std.specs.Prelude.{◌≡◌};
-ghost use Rattle.uncapped.specs.Echo.{echo_of};
-
-// The `ensures` clause is the contract: what `echo` returns is `echo_of` of its argument, a definition
-// in `specs/Echo.antt`, which a caller's clause can cite too.
-pub fn echo(x: usize) -> usize
-    ensures { result ≡ echo_of x }
-{
-    x
-}

@@ -1,0 +1,39 @@
+-- The default settings on two places that cost 3 and 4 seconds, computed.
+use Rattle.std.specs.Prelude.{ℕ, zero, suc, ◌≡◌, List, [], ◌∷◌, Some, None, refl}
+use Rattle.objective.specs.Bounds.{Bounds}
+use Rattle.objective.specs.Costs.{Table}
+use Rattle.objective.specs.declared.Factor.TheVariants.{One}
+use Rattle.objective.specs.declared.Outcome.{Outcome}
+use Rattle.objective.specs.declared.Outcome.TheVariants.{Solved, Abort}
+use Rattle.uncapped.specs.Totals.{total_cost}
+use Rattle.uncapped.specs.Procedure.{Finished, Aborted}
+use Rattle.uncapped.specs.Uncapped.{Setup, uncapped, measure, opening_basic}
+
+abbrev pub ten_seconds : Bounds
+ten_seconds = record { cutoff = 10000000; factor = One; floor = 1 }
+
+abbrev pub two_places : Setup
+two_places = record { start = 0 ∷ []; max_runs = 2 }
+
+abbrev pub three_and_four : Table
+three_and_four config zero = Solved (record { 0 = 0 })
+three_and_four config (suc zero) = Solved (record { 0 = 3000000 })
+three_and_four config (suc (suc place)) = Solved (record { 0 = 4000000 })
+
+-- one entry after one ask, and the same last line
+pub default_settings : uncapped two_places (total_cost ten_seconds three_and_four) ≡ record {
+  end = Finished;
+  asks = record { config = 0 ∷ []; places = 2; bound = None } ∷ [];
+  entries = record { asks_before = 1; entry = record { compared = 0; runs = 2; sum = 7000000; config = 0 ∷ [] } } ∷ [];
+  last = record { compared = 0; runs = 2; sum = 7000000; config = 0 ∷ [] };
+}
+unfolding uncapped measure opening_basic
+default_settings = refl
+
+abbrev pub aborting : Table
+aborting config place = Abort (record { 0 = 1000000 })
+
+-- an abort ends the procedure before its first entry
+pub default_aborts : (uncapped two_places (total_cost ten_seconds aborting)).end ≡ Aborted
+unfolding uncapped measure opening_basic
+default_aborts = refl

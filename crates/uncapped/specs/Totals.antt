@@ -1,0 +1,15 @@
+-- Total costs of configurations over the first places.
+use Rattle.std.specs.Prelude.{ℕ, zero, suc, ◌+◌, List, Option, Some, None}
+use Rattle.objective.specs.Bounds.{Bounds}
+use Rattle.objective.specs.Costs.{Table, cost_of}
+
+-- the sum of two costs, where both are known
+abbrev pub plus : Option ℕ → Option ℕ → Option ℕ
+plus (Some x) (Some y) = Some (x + y)
+plus (Some x) None = None
+plus None y = None
+
+-- the sum of the costs at the places 1 to n, or none where one of them aborts
+abbrev pub total_cost : Bounds → Table → List ℕ → ℕ → Option ℕ
+total_cost limits T config zero = Some 0
+total_cost limits T config (suc n) = plus (total_cost limits T config n) (cost_of limits (T config (suc n)))
