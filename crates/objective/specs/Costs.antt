@@ -23,6 +23,13 @@ within outcome.Unsolved limits = outcome.Unsolved
 within (outcome.Crashed t) limits = if nat_le t.0 limits.cutoff then outcome.Crashed t else outcome.Unsolved
 within (outcome.Abort t) limits = if nat_le t.0 limits.cutoff then outcome.Abort t else outcome.Unsolved
 
+-- a time that is shown is no longer than the cutoff
+abbrev pub IsWithin : Answer → ℕ → Type 0
+IsWithin (answer.Solved t) cutoff = t.0 ≤ cutoff
+IsWithin answer.Timeout cutoff = Unit {0}
+IsWithin answer.Crashed cutoff = Unit {0}
+IsWithin answer.Abort cutoff = Unit {0}
+
 abbrev pub times : Factor → ℕ
 times One = 1
 times Ten = 10

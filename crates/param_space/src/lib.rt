@@ -1,13 +1,15 @@
-// A library with one function.
+//! Parameter spaces: parameters with their values, and configurations of them.
 #![tactic(auto)]
 
-ghost use Rattle.std.specs.Prelude.{◌≡◌};
-ghost use Rattle.param_space.specs.Echo.{echo_of};
+mod config;
+mod lists;
+mod rules;
+mod settings;
+mod space;
 
-// The `ensures` clause is the contract: what `echo` returns is `echo_of` of its argument, a definition
-// in `specs/Echo.antt`, which a caller's clause can cite too.
-pub fn echo(x: usize) -> usize
-    ensures { result ≡ echo_of x }
-{
-    x
-}
+pub use config::Config;
+pub use lists::{Condition, Forbidden, Param, Part, Pick, SpaceFault, SpaceWhat};
+pub use space::Space;
+
+#[cfg(test)]
+mod tests;

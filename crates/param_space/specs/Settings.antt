@@ -1,0 +1,20 @@
+-- A configuration as names and values, and as the text that is printed.
+use Rattle.std.specs.Prelude.{ℕ, List, [], ◌∷◌, ◌++◌, codes}
+use Rattle.std.specs.List.{slice_index_or}
+use Rattle.param_space.specs.declared.lists.Param.{Param}
+
+-- each parameter's name and its value, in the order of the space
+abbrev pub named_values : List Param → List ℕ → List (List ℕ × List ℕ)
+named_values [] values = []
+named_values (p ∷ ps) [] = []
+named_values (p ∷ ps) (v ∷ vs) = (p.name, slice_index_or p.values v []) ∷ named_values ps vs
+
+-- `name=value`
+abbrev pub setting_text : List ℕ × List ℕ → List ℕ
+setting_text s = s.0 ++ (codes "=" ++ s.1)
+
+-- the settings parted by one space
+abbrev pub settings_text : List (List ℕ × List ℕ) → List ℕ
+settings_text [] = []
+settings_text (s ∷ []) = setting_text s
+settings_text (s ∷ t ∷ later) = setting_text s ++ (codes " " ++ settings_text (t ∷ later))

@@ -1,0 +1,117 @@
+//! The parts of a parameter space, and its faults.
+ghost use Rattle.std.specs.Prelude.{◌≡◌, IfOk};
+
+use objective::Memory;
+use plain_text::{Items, Text};
+use std::alloc::Global;
+
+/// A parameter with its values. Values are numbered from 0.
+#[derive(Drop)]
+pub struct Param {
+    /// The name, a word.
+    pub name: Text,
+    /// The values, words that differ.
+    pub values: Items<Text>,
+    /// The number of the default value.
+    pub default: u16,
+}
+
+impl Param {
+    /// The same parameter.
+    pub fn copy(&self, alloc: Global) -> Result<Param, Memory>
+        ensures { IfOk result (λ p. p ≡ self.now) }
+    {
+        let mut values = Vec::new(alloc);
+        for value in self.values.as_slice() {
+            values.push(value.copy()?)?;
+        }
+        Ok(Param {
+            name: self.name.copy()?,
+            values: Items::new(values),
+            default: self.default,
+        })
+    }
+}
+
+/// The child is active only where its parent is active and has a listed value.
+#[derive(Drop)]
+pub struct Condition {
+    /// The number of the child, from 0.
+    pub child: u16,
+    /// The number of the parent, from 0.
+    pub parent: u16,
+    /// The numbers of the parent's listed values.
+    pub values: Items<u16>,
+}
+
+/// A value of a parameter.
+#[derive(Clone, Copy, Debug, PartialEq, Eq)]
+pub struct Pick {
+    /// The number of the parameter, from 0.
+    pub param: u16,
+    /// The number of its value, from 0.
+    pub value: u16,
+}
+
+/// Settings that may not stand together.
+#[derive(Drop)]
+pub struct Forbidden {
+    /// The settings.
+    pub picks: Items<Pick>,
+}
+
+/// The list that a fault of a space is in.
+#[derive(Clone, Copy, Debug, PartialEq, Eq)]
+pub enum Part {
+    /// The parameters.
+    Param,
+    /// The conditions.
+    Condition,
+    /// The forbidden clauses.
+    Forbidden,
+    /// The space as a whole.
+    Whole,
+}
+
+/// Which rule of a space is broken.
+#[derive(Clone, Copy, Debug, PartialEq, Eq)]
+pub enum SpaceWhat {
+    /// There is no parameter.
+    NoParameters,
+    /// More than 256 parameters or 256 values of one; or past another list's limit.
+    TooMany,
+    /// A name or a value is not one or more word characters.
+    BadWord,
+    /// A name stands twice.
+    DoubleName,
+    /// A list of values is empty.
+    NoValues,
+    /// A value stands twice.
+    DoubleValue,
+    /// The default is not among the values.
+    BadDefault,
+    /// There is no such parameter.
+    UnknownName,
+    /// There is no such value.
+    UnknownValue,
+    /// A parameter is its own ancestor.
+    Cycle,
+    /// A clause forbids the default configuration.
+    DefaultForbidden,
+}
+
+/// Why lists make no space.
+#[derive(Clone, Copy, Debug, PartialEq, Eq)]
+pub enum SpaceFault {
+    /// The first broken rule, at this place of this list, from 0.
+    At {
+        /// The list.
+        part: Part,
+        /// The place in it, from 0; 0 for the whole.
+        place: u32,
+        /// The rule.
+        what: SpaceWhat,
+    },
+    /// There is no memory left.
+    Memory,
+}
