@@ -1,13 +1,29 @@
-// A library with one function.
+//! The outside world as traits: files, output and child processes, with what each tells;
+//! and implementations in memory.
 #![tactic(auto)]
 
-ghost use Rattle.std.specs.Prelude.{◌≡◌};
-ghost use Rattle.outside.specs.Echo.{echo_of};
+mod faults;
+mod files;
+mod memory_files;
+mod memory_sink;
+mod numbers;
+mod results;
+mod runs;
+mod sink;
+mod spawner;
+mod table;
+mod table_seat;
 
-// The `ensures` clause is the contract: what `echo` returns is `echo_of` of its argument, a definition
-// in `specs/Echo.antt`, which a caller's clause can cite too.
-pub fn echo(x: usize) -> usize
-    ensures { result ≡ echo_of x }
-{
-    x
-}
+pub use faults::{Fail, Fault, Poll};
+pub use files::Files;
+pub use memory_files::MemoryFiles;
+pub use memory_sink::MemorySink;
+pub use results::answer_of;
+pub use runs::{Key, Program, Run, Setting, copy_texts, read_program, words_of};
+pub use sink::Sink;
+pub use spawner::Spawner;
+pub use table::Table;
+pub use table_seat::{Script, TableSeat};
+
+#[cfg(test)]
+mod tests;

@@ -1,13 +1,21 @@
-// A library with one function.
+//! The top call: it reads words and files, runs the default settings, and prints.
 #![tactic(auto)]
 
-ghost use Rattle.std.specs.Prelude.{◌≡◌};
-ghost use Rattle.tuner.specs.Echo.{echo_of};
+mod evaluation;
+mod finishing;
+mod lines;
+mod problem;
+mod reading;
+mod running;
+mod saying;
+mod seat;
+mod status;
+mod truth;
+mod tuning;
+mod writing;
 
-// The `ensures` clause is the contract: what `echo` returns is `echo_of` of its argument, a definition
-// in `specs/Echo.antt`, which a caller's clause can cite too.
-pub fn echo(x: usize) -> usize
-    ensures { result ≡ echo_of x }
-{
-    x
-}
+pub use problem::Problem;
+pub use seat::Seat;
+pub use status::{FileKind, Status};
+pub use truth::Truth;
+pub use tuning::tune;

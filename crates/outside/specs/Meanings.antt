@@ -1,0 +1,46 @@
+-- How the calls of files, sinks and spawners change what they tell.
+use Rattle.std.specs.Prelude.{ℕ, Bool, true, false, not, ◌==◌, ◌&&◌, List, ◌++◌, ◌∷◌, [], length, nat_lt, Option, Some, None, Result, Ok, Err}
+use Rattle.outside.specs.declared.faults.Fault.{Fault}
+use Rattle.outside.specs.declared.faults.Fault.TheVariants.{Failed, Memory}
+use Rattle.outside.specs.declared.faults.Fail.{Fail}
+use Rattle.outside.specs.declared.faults.Poll.{Poll}
+use Rattle.outside.specs.declared.faults.Poll.TheVariants.{Pending, Ended}
+use Rattle.outside.specs.declared.runs.Run.{Run}
+
+-- the call failed, and not for want of memory
+abbrev pub has_failed : {A : Type 0} → Result A Fault → Bool
+has_failed (Ok _) = false
+has_failed (Err Failed) = true
+has_failed (Err Memory) = false
+
+-- the bytes taken, where they are told, after these are taken
+abbrev pub after_taking : Option (List ℕ) → List ℕ → Option (List ℕ)
+after_taking None piece = None
+after_taking (Some bytes) piece = Some (bytes ++ piece)
+
+-- a write that took nothing of a piece that isn't empty
+abbrev pub is_empty_taking : Result ℕ Fault → List ℕ → Bool
+is_empty_taking (Ok n) piece = (n == 0) && nat_lt 0 (length piece)
+is_empty_taking (Err _) piece = false
+
+-- the lists of words started, where they are told, after a start
+abbrev pub started_after : {A : Type 0} → Result A Fault → Option (List (List (List ℕ))) → List (List ℕ) → Option (List (List (List ℕ)))
+started_after (Ok _) None words = None
+started_after (Ok _) (Some lists) words = Some (lists ++ words ∷ [])
+started_after (Err _) lists words = lists
+
+-- the run of the last start or look that failed
+abbrev pub failed_after : Bool → Option Run → Option Run → Option Run
+failed_after true run before = run
+failed_after false run before = before
+
+-- the look found that the child had ended
+abbrev pub has_ended : Result Poll Fail → Bool
+has_ended (Ok Pending) = false
+has_ended (Ok Ended) = true
+has_ended (Err _) = false
+
+-- the look failed
+abbrev pub has_look_failed : Result Poll Fail → Bool
+has_look_failed (Ok _) = false
+has_look_failed (Err _) = true

@@ -1,0 +1,22 @@
+//! Files.
+ghost use Rattle.std.specs.Prelude.{◌≡◌, ℕ, ◌≤◌, IsTrue, List, Option, Some, None, IfSome, IfOk};
+ghost use Rattle.outside.specs.Counts.{Rose};
+ghost use Rattle.outside.specs.Meanings.{has_failed};
+
+use crate::faults::Fault;
+
+/// Something that gives the bytes of a file by its name.
+pub trait Files {
+    /// The contents by name, where they are told.
+    ghost contents: { Self → Option (List ℕ → Option (List ℕ)) };
+
+    /// How many reads have failed.
+    ghost faults: { Self → ℕ };
+
+    /// Reads a whole file. Where the contents are told, a name that isn't there fails.
+    fn read(&mut self, name: &str) -> Result<Vec<u8>, Fault>
+        ensures same { contents self.new ≡ contents self.old }
+        ensures given { IfOk result (λ bytes. IfSome (contents self.old) (λ named. named name.now ≡ Some bytes.items)) }
+        ensures failed { IsTrue (has_failed result) → Rose (faults self.old) (faults self.new) }
+        ensures counts { faults self.old ≤ faults self.new };
+}

@@ -1,0 +1,107 @@
+//! Files in memory.
+ghost use Rattle.std.specs.Prelude.{◌≡◌, List, ℕ, [], ◌∷◌, ◌++◌, Some, OnOk, OnErr, option_map, bytes_eq, if◌then◌else◌};
+ghost use Rattle.outside.specs.Folders.{bytes_of};
+
+use crate::faults::Fault;
+use crate::files::Files;
+use crate::numbers::has_number;
+use objective::Memory;
+use plain_text::{Items, Text};
+use std::alloc::Global;
+use std::marker::Model;
+
+/// A file.
+#[derive(Drop)]
+struct File {
+    name: Text,
+    bytes: Items<u8>,
+}
+
+/// Files in memory, and which reads of them fail.
+#[derive(Drop)]
+pub struct MemoryFiles {
+    alloc: Global,
+    files: Vec<File>,
+    bad_reads: Vec<u32>,
+    reads: usize,
+    faults: u64,
+}
+
+impl Model for MemoryFiles {
+    ghost use Rattle.outside.specs.Folders.{Folder};
+
+    ghost Value = { Folder };
+
+    ghost view = { λ m. record { files = m.files.items; bad_reads = m.bad_reads.items; faults = m.faults } };
+}
+
+/// The bytes of the first file with this name.
+fn bytes_named<'a>(files: &'a [File], name: &str) -> Option<&'a [u8]>
+    ensures { option_map (λ bytes. bytes.now) result ≡ bytes_of files.now name.now }
+{
+    let file = files.iter().find(|file| file.name.as_str() == name)?;
+    Some(file.bytes.as_slice())
+}
+
+impl MemoryFiles {
+    /// No files. Takes no memory.
+    pub fn new(alloc: Global) -> MemoryFiles
+        ensures { result ≡ record { files = []; bad_reads = []; faults = 0 } }
+    {
+        MemoryFiles {
+            alloc,
+            files: Vec::new(alloc),
+            bad_reads: Vec::new(alloc),
+            reads: 0,
+            faults: 0,
+        }
+    }
+
+    /// Gives the name these bytes. Each other name has what it had.
+    pub fn put(&mut self, name: &str, bytes: &[u8]) -> Result<(), Memory>
+        ensures ok { OnOk result (self.new ≡ record self.old { files = record { name = name.now; bytes = bytes.now } ∷ self.old.files }) }
+        ensures err { OnErr result (self.new ≡ self.old) }
+        ensures named { OnOk result ((other : List ℕ) → bytes_of self.new.files other ≡ (if bytes_eq name.now other then Some bytes.now else bytes_of self.old.files other)) }
+    {
+        let name = Text::of(self.alloc, name)?;
+        let bytes = Items::new(Vec::from_slice(self.alloc, bytes)?);
+        self.files.insert(0, File { name, bytes })?;
+        Ok(())
+    }
+
+    /// Makes the read with this number, from 1, fail.
+    pub fn fail_at(&mut self, read: u32) -> Result<(), Memory>
+        ensures ok { OnOk result (self.new ≡ record self.old { bad_reads = self.old.bad_reads ++ read ∷ [] }) }
+        ensures err { OnErr result (self.new ≡ self.old) }
+    {
+        self.bad_reads.push(read)?;
+        Ok(())
+    }
+
+    /// How many reads have failed.
+    pub fn faults(&self) -> u64
+        ensures { result ≡ self.now.faults }
+    {
+        self.faults
+    }
+}
+
+impl Files for MemoryFiles {
+    ghost use Rattle.std.specs.Prelude.{Some};
+    ghost use Rattle.outside.specs.Folders.{bytes_of};
+
+    ghost contents = { λ s. Some (bytes_of s.files) };
+
+    ghost faults = { λ s. s.faults };
+
+    fn read(&mut self, name: &str) -> Result<Vec<u8>, Fault> {
+        self.reads = self.reads.saturating_add(1);
+        if !has_number(self.bad_reads.as_slice(), self.reads) {
+            if let Some(bytes) = bytes_named(self.files.as_slice(), name) {
+                return Ok(Vec::from_slice(self.alloc, bytes)?);
+            }
+        }
+        self.faults = self.faults.saturating_add(1);
+        Err(Fault::Failed)
+    }
+}

@@ -1,0 +1,205 @@
+//! Programs, keys of runs, and a child's words.
+ghost use Rattle.std.specs.Prelude.{◌≡◌, ◌==◌, ◌++◌, ◌<◌, [], ◌∷◌, nat_lt, IfOk, OnOk, length, filter};
+ghost use Rattle.std.specs.Fmt.{decimal};
+ghost use Rattle.std.specs.List.{slice_split};
+ghost use Rattle.plain_text.specs.Decimals.{seconds};
+ghost use Rattle.outside.specs.Runs.{blank_parted, setting_words, words_of as words_for};
+
+use objective::{Memory, Micros};
+use plain_text::{Items, Text, pieces};
+use std::alloc::Global;
+
+/// The program that is tuned.
+#[derive(Drop)]
+pub struct Program {
+    /// The words that start it.
+    pub words: Items<Text>,
+    /// The folder that it is started in.
+    pub dir: Text,
+    /// The cutoff length that is passed on to it.
+    pub cutoff_length: u32,
+}
+
+/// A parameter's name with the value that it is given.
+#[derive(Drop)]
+pub struct Setting {
+    /// The parameter's name.
+    pub name: Text,
+    /// The value.
+    pub value: Text,
+}
+
+/// What one run is of: an instance with its specifics, a seed and settings.
+#[derive(Drop)]
+pub struct Key {
+    /// The instance's name.
+    pub instance: Text,
+    /// What its line says after the name; `0` where it says nothing.
+    pub specifics: Text,
+    /// The seed.
+    pub seed: u32,
+    /// The active parameters with their values, in the order of the space.
+    pub settings: Items<Setting>,
+}
+
+/// A key under a cutoff in microseconds.
+#[derive(Drop)]
+pub struct Run {
+    /// What is run.
+    pub key: Key,
+    /// The cutoff.
+    pub cutoff: Micros,
+}
+
+impl Setting {
+    /// The same setting.
+    pub fn copy(&self) -> Result<Setting, Memory>
+        ensures { IfOk result (λ s. s ≡ self.now) }
+    {
+        let (name, value) = (self.name.copy()?, self.value.copy()?);
+        Ok(Setting { name, value })
+    }
+}
+
+impl Key {
+    /// The same key.
+    pub fn copy(&self, alloc: Global) -> Result<Key, Memory>
+        ensures { IfOk result (λ k. k ≡ self.now) }
+    {
+        let (instance, specifics) = (self.instance.copy()?, self.specifics.copy()?);
+        let settings = copy_settings(alloc, self.settings.as_slice())?;
+        Ok(Key {
+            instance,
+            specifics,
+            seed: self.seed,
+            settings: Items::new(settings),
+        })
+    }
+}
+
+impl Run {
+    /// The same run.
+    pub fn copy(&self, alloc: Global) -> Result<Run, Memory>
+        ensures { IfOk result (λ r. r ≡ self.now) }
+    {
+        let key = self.key.copy(alloc)?;
+        Ok(Run {
+            key,
+            cutoff: self.cutoff,
+        })
+    }
+}
+
+/// The same settings.
+fn copy_settings(alloc: Global, settings: &[Setting]) -> Result<Vec<Setting>, Memory>
+    ensures { IfOk result (λ v. v.items ≡ settings.now) }
+{
+    let mut copies = Vec::new(alloc);
+    for setting in settings {
+        copies.push(setting.copy()?)?;
+    }
+    Ok(copies)
+}
+
+/// The same texts.
+pub fn copy_texts(alloc: Global, texts: &[Text]) -> Result<Vec<Text>, Memory>
+    ensures { IfOk result (λ v. v.items ≡ texts.now) }
+{
+    let mut copies = Vec::new(alloc);
+    for text in texts {
+        copies.push(text.copy()?)?;
+    }
+    Ok(copies)
+}
+
+/// Appends a word, where it isn't empty.
+fn push_word(alloc: Global, words: &mut Vec<Text>, word: &str) -> Result<(), Memory>
+    ensures { OnOk result (words.new.items ≡ words.old.items ++ filter (λ word. nat_lt 0 (length word)) (word.now ∷ [])) }
+{
+    if !word.is_empty() {
+        words.push(Text::of(alloc, word)?)?;
+    }
+    Ok(())
+}
+
+/// Appends the longest parts of a text without tabs.
+fn push_tab_parted(alloc: Global, words: &mut Vec<Text>, text: &str) -> Result<(), Memory>
+    ensures { OnOk result (words.new.items ≡ words.old.items ++ filter (λ word. nat_lt 0 (length word)) (slice_split (λ b. b == 9) text.now)) }
+{
+    let parts = pieces(alloc, text, '\t')?;
+    for part in &parts {
+        push_word(alloc, words, part)?;
+    }
+    Ok(())
+}
+
+/// Reads a program: the words that start it stand in `algo` with spaces or tabs between
+/// them. It is started in the folder `dir`.
+pub fn read_program(
+    alloc: Global,
+    algo: &str,
+    dir: &str,
+    cutoff_length: u32,
+) -> Result<Program, Memory>
+    ensures { IfOk result (λ p. p ≡ record { words = blank_parted algo.now; dir = dir.now; cutoff_length = cutoff_length }) }
+{
+    let mut words = Vec::new(alloc);
+    let parts = pieces(alloc, algo, ' ')?;
+    for part in &parts {
+        push_tab_parted(alloc, &mut words, part)?;
+    }
+    let dir = Text::of(alloc, dir)?;
+    Ok(Program {
+        words: Items::new(words),
+        dir,
+        cutoff_length,
+    })
+}
+
+/// The time as whole seconds, a point and six digits.
+pub(crate) fn seconds_text(alloc: Global, time: Micros) -> Result<Text, Memory>
+    ensures { IfOk result (λ t. t ≡ seconds time.0) }
+{
+    let micros = time.0;
+    let whole = micros / 1_000_000;
+    let (a, b, c) = (
+        micros / 100_000 % 10,
+        micros / 10_000 % 10,
+        micros / 1000 % 10,
+    );
+    let (d, e, f) = (micros / 100 % 10, micros / 10 % 10, micros % 10);
+    Ok(Text::new(format!(in alloc; "{whole}.{a}{b}{c}{d}{e}{f}")?))
+}
+
+/// A number in decimal digits.
+fn number_text(alloc: Global, number: u32) -> Result<Text, Memory>
+    ensures { IfOk result (λ t. t ≡ decimal number) }
+{
+    Ok(Text::new(format!(in alloc; "{number}")?))
+}
+
+/// Appends `-name` and the value of each setting.
+fn push_settings(alloc: Global, words: &mut Vec<Text>, settings: &[Setting]) -> Result<(), Memory>
+    ensures { OnOk result (words.new.items ≡ words.old.items ++ setting_words settings.now) }
+{
+    for setting in settings {
+        let name = setting.name.as_str();
+        words.push(Text::new(format!(in alloc; "-{name}")?))?;
+        words.push(setting.value.copy()?)?;
+    }
+    Ok(())
+}
+
+/// The words that start a run of the program.
+pub fn words_of(alloc: Global, program: &Program, run: &Run) -> Result<Vec<Text>, Memory>
+    ensures { IfOk result (λ w. w.items ≡ words_for program.now run.now) }
+{
+    let mut words = copy_texts(alloc, program.words.as_slice())?;
+    words.push(run.key.instance.copy()?)?;
+    words.push(run.key.specifics.copy()?)?;
+    words.push(seconds_text(alloc, run.cutoff)?)?;
+    words.push(number_text(alloc, program.cutoff_length)?)?;
+    words.push(number_text(alloc, run.key.seed)?)?;
+    push_settings(alloc, &mut words, run.key.settings.as_slice())?;
+    Ok(words)
+}

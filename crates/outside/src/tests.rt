@@ -1,0 +1,99 @@
+//! Happy paths of each implementation in memory, and the faults that they are told to have.
+use super::*;
+use objective::{Answer, Memory, Micros, Outcome};
+use plain_text::{Items, Text};
+use std::alloc::Global;
+use std::test::Fail as Failed;
+
+/// Each run is solved after three seconds.
+#[derive(Drop)]
+struct Steady;
+
+impl Table for Steady {
+    ghost use Rattle.objective.specs.declared.Outcome.TheVariants.{Solved};
+
+    ghost outcome = { λ key. Solved (record { 0 = 3000000 }) };
+
+    fn outcome(_key: &Key) -> Outcome {
+        Outcome::Solved(Micros(3_000_000))
+    }
+}
+
+/// A run of the instance `one` under this cutoff.
+fn example_run(alloc: Global, cutoff: Micros) -> Result<Run, Memory> {
+    let settings = Items::new(Vec::new(alloc));
+    let key = Key {
+        instance: Text::of(alloc, "one")?,
+        specifics: Text::of(alloc, "0")?,
+        seed: 1,
+        settings,
+    };
+    Ok(Run { key, cutoff })
+}
+
+fn numbers(alloc: Global, all: &[u32]) -> Result<Items<u32>, Memory> {
+    Ok(Items::new(Vec::from_slice(alloc, all)?))
+}
+
+#[test]
+fn seat_follows_its_script(rt: HostRuntime) -> Result<(), Failed> {
+    let alloc = rt.alloc();
+    let program = read_program(alloc, "sh run", ".", 7)?;
+    let run = example_run(alloc, Micros(10_000_000))?;
+    let words = words_of(alloc, &program, &run)?;
+    let script = Script {
+        pending: numbers(alloc, &[2])?,
+        bad_starts: numbers(alloc, &[2])?,
+        bad_polls: numbers(alloc, &[4])?,
+        stuck: numbers(alloc, &[4])?,
+    };
+    let mut seat: TableSeat<Steady> = TableSeat::new(alloc, script)?;
+    let dir = program.dir.as_str();
+    assert!(rt; seat.start(dir, words.as_slice(), &run).is_ok());
+    assert!(rt; matches!(seat.poll(), Ok(Poll::Pending)));
+    assert!(rt; matches!(seat.poll(), Ok(Poll::Pending)));
+    assert!(rt; matches!(seat.poll(), Ok(Poll::Ended)));
+    assert_eq!(rt;
+        seat.output(),
+        b"Result for ParamILS: SAT, 3.000000, 0, 0, 0\n".as_slice()
+    );
+    assert_eq!(rt;
+        answer_of(seat.output(), run.cutoff),
+        Answer::Solved(Micros(3_000_000))
+    );
+    assert!(rt; matches!(seat.start(dir, words.as_slice(), &run), Err(Fault::Failed)));
+    assert!(rt; seat.start(dir, words.as_slice(), &run).is_ok());
+    assert!(rt; seat.poll().is_err());
+    assert!(rt; seat.start(dir, words.as_slice(), &run).is_ok());
+    assert!(rt; matches!(seat.poll(), Ok(Poll::Pending)));
+    seat.kill();
+    assert_eq!(rt; (seat.starts().len(), seat.faults()), (3, 2));
+    Ok(())
+}
+
+#[test]
+fn files_and_sink_keep_what_they_are_given(rt: HostRuntime) -> Result<(), Failed> {
+    let alloc = rt.alloc();
+    let mut files = MemoryFiles::new(alloc);
+    files.put("a", b"old")?;
+    files.put("a", b"new")?;
+    files.fail_at(2)?;
+    assert_eq!(rt; files.read("a").ok().as_deref(), Some(b"new".as_slice()));
+    assert!(rt; files.read("a").is_err());
+    assert!(rt; files.read("b").is_err());
+    assert_eq!(rt; files.faults(), 2);
+    let mut sink = MemorySink::new(alloc);
+    sink.fail_at(2)?;
+    sink.nothing_at(3)?;
+    for (want, piece) in [
+        (Ok(3), "one"),
+        (Err(Fault::Failed), "x"),
+        (Ok(0), "y"),
+        (Ok(3), "two"),
+    ] {
+        assert_eq!(rt; sink.write(piece.as_bytes()), want, "at {piece}");
+    }
+    assert_eq!(rt; sink.bytes(), b"onetwo".as_slice());
+    assert_eq!(rt; sink.faults(), 1);
+    Ok(())
+}

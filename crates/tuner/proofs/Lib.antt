@@ -1,0 +1,9 @@
+pub mod AllSome
+pub mod Utf8
+pub mod Settings
+pub mod Costs
+pub mod Taking
+pub mod Sayings
+pub mod RunsEnd
+pub mod Promised
+pub mod Endings

@@ -1,0 +1,41 @@
+-- What answers cost, and how an evaluation ends, by cases.
+use Rattle.std.specs.Prelude.{ℕ, ◌≤◌, Option, Some, None}
+use Rattle.objective.specs.Bounds.{Bounds}
+use Rattle.objective.specs.Costs.{penalty}
+use Rattle.objective.specs.declared.Answer.{Answer}
+use Rattle.objective.specs.declared.Answer.TheVariants.{Solved, Timeout, Crashed, Abort}
+use Rattle.tuner.specs.declared.evaluation.Evaluated.{Evaluated}
+use Rattle.tuner.specs.declared.evaluation.Evaluated.TheVariants as end
+
+-- the cost of an answer under the full cutoff; none exactly for an abort
+abbrev pub cost_seen : Bounds → Answer → Option ℕ
+cost_seen limits (Solved t) = Some t.0
+cost_seen limits Timeout = Some (penalty limits)
+cost_seen limits Crashed = Some (penalty limits)
+cost_seen limits Abort = None
+
+-- a place of a comparison, from 1
+pub record IsPlace (max_runs place : ℕ) : Type 0 where
+  pub first : 1 ≤ place
+  pub last : place ≤ max_runs
+
+-- the fact of the sum, where there is one
+abbrev pub IfSum : Evaluated → (ℕ → Type 0) → Type 0
+IfSum (end.Sum x) P = P x.0
+IfSum end.Aborted P = Unit {0}
+IfSum (end.Failed place) P = Unit {0}
+IfSum end.Memory P = Unit {0}
+
+-- the fact, where a child aborted
+abbrev pub OnAborted : Evaluated → Type 0 → Type 0
+OnAborted (end.Sum x) P = Unit {0}
+OnAborted end.Aborted P = P
+OnAborted (end.Failed place) P = Unit {0}
+OnAborted end.Memory P = Unit {0}
+
+-- the fact of the place, where a child failed
+abbrev pub IfFailed : Evaluated → (ℕ → Type 0) → Type 0
+IfFailed (end.Sum x) P = Unit {0}
+IfFailed end.Aborted P = Unit {0}
+IfFailed (end.Failed place) P = P place
+IfFailed end.Memory P = Unit {0}

@@ -1,0 +1,142 @@
+-- What is tuned: the reading of words and files as a problem, and its runs.
+use Rattle.std.specs.Prelude.{ℕ, ◌+◌, ◌*◌, ◌-◌, ◌%◌, List, [], ◌∷◌, length, map, Option, Some, None, if◌then◌else◌, codes}
+use Rattle.std.specs.List.{slice_index_or}
+use Rattle.objective.specs.Bounds.{Bounds}
+use Rattle.objective.specs.Costs.{Table}
+use Rattle.objective.specs.declared.Factor.TheVariants.{One}
+use Rattle.objective.specs.declared.Outcome.{Outcome}
+use Rattle.objective.specs.declared.Outcome.TheVariants.{Unsolved}
+use Rattle.param_space.specs.declared.lists.Param.{Param}
+use Rattle.param_space.specs.Space.{defaults}
+use Rattle.param_space.specs.Settings.{named_values}
+use Rattle.outside.specs.declared.runs.Program.{Program}
+use Rattle.outside.specs.declared.runs.Setting.{Setting}
+use Rattle.outside.specs.declared.runs.Key.{Key}
+use Rattle.outside.specs.declared.runs.Run as outside_run
+use Rattle.outside.specs.Runs.{blank_parted}
+use Rattle.uncapped.specs.Totals.{total_cost}
+use Rattle.uncapped.specs.Uncapped.{Setup, Run, uncapped}
+use Rattle.tuner.specs.Reading.{Scenario, is_text, scenario_name, scenario_of, params_of, instances_of}
+use Rattle.tuner.specs.declared.status.FileKind.{FileKind}
+use Rattle.tuner.specs.declared.status.FileKind.TheVariants as kind
+
+pub record Problem : Type 0 where
+  pub program : Program
+  pub params : List Param
+  pub instances : List (List ℕ)
+  pub max_runs : ℕ
+  pub limits : Bounds
+
+-- ---- the reading
+
+-- words and files as a value, or the first refusal in the order in which they are read
+pub data Reading (A : Type 0) : Type 0 where
+  Reads : A → Reading A
+  Refused : Reading A  -- the words or a file are not of the accepted form
+  Absent : FileKind → Reading A  -- a file isn't there
+
+infixl 10 ◌>>=◌
+-- one reading after another, which takes its value
+abbrev pub ◌>>=◌ : {A B : Type 0} → Reading A → (A → Reading B) → Reading B
+Reads x >>= f = f x
+Refused >>= f = Refused
+Absent kind >>= f = Absent kind
+
+-- a value that is read, or a refusal
+abbrev pub accepted : {A : Type 0} → Option A → Reading A
+accepted None = Refused
+accepted (Some x) = Reads x
+
+-- the bytes of a file that is there
+abbrev pub present : FileKind → Option (List ℕ) → Reading (List ℕ)
+present kind None = Absent kind
+present kind (Some bytes) = Reads bytes
+
+-- bytes that are a text
+abbrev pub text_from : List ℕ → Reading (List ℕ)
+text_from bytes = if is_text bytes then Reads bytes else Refused
+
+-- the text of a file that is there
+abbrev pub text_in : FileKind → (List ℕ → Option (List ℕ)) → List ℕ → Reading (List ℕ)
+text_in kind contents name = present kind (contents name) >>= text_from
+
+-- a file's text, as it is read
+abbrev pub file_as : {A : Type 0} → FileKind → (List ℕ → Option A) → (List ℕ → Option (List ℕ)) → List ℕ → Reading A
+file_as kind read contents name = text_in kind contents name >>= λ text. accepted (read text)
+
+-- a scenario with its parameters and instances as a problem
+abbrev pub problem_from : Scenario → List Param → List (List ℕ) → Problem
+problem_from scenario params instances = record {
+  program = record { words = blank_parted scenario.algo; dir = codes "."; cutoff_length = 2147483647 };
+  params = params;
+  instances = instances;
+  max_runs = scenario.runs;
+  limits = record { cutoff = scenario.cutoff * 1000000; factor = One; floor = 1 };
+}
+
+-- the scenario that the words name
+abbrev pub scenario_in : List (List ℕ) → (List ℕ → Option (List ℕ)) → Reading Scenario
+scenario_in words contents =
+    accepted (scenario_name words) >>= λ file. file_as kind.Scenario scenario_of contents file
+
+-- the problem that the words and files state
+abbrev pub problem_of : List (List ℕ) → (List ℕ → Option (List ℕ)) → Reading Problem
+problem_of words contents = do
+  scenario ← scenario_in words contents
+  params ← file_as kind.Params params_of contents scenario.paramfile
+  instances ← file_as kind.Instances instances_of contents scenario.instance_file
+  Reads (problem_from scenario params instances)
+
+-- the name of a file that is to be read, once the files before it have a reading
+abbrev pub file_name : List (List ℕ) → (List ℕ → Option (List ℕ)) → FileKind → Reading (List ℕ)
+file_name words contents kind.Scenario = accepted (scenario_name words)
+file_name words contents kind.Params = do
+  scenario ← scenario_in words contents
+  Reads scenario.paramfile
+file_name words contents kind.Instances = do
+  scenario ← scenario_in words contents
+  params ← file_as kind.Params params_of contents scenario.paramfile
+  Reads scenario.instance_file
+
+-- ---- the runs
+
+-- a name and a value as a setting
+abbrev pub setting_from : List ℕ × List ℕ → Setting
+setting_from s = record { name = s.0; value = s.1 }
+
+-- the settings of a configuration
+abbrev pub settings_at : Problem → List ℕ → List Setting
+settings_at problem config = map setting_from (named_values problem.params config)
+
+-- what a configuration's run at a place is of: place i has instance (i - 1) mod I and the seed i
+abbrev pub key_at : Problem → List ℕ → ℕ → Key
+key_at problem config place = record {
+  instance = slice_index_or problem.instances ((place - 1) % length problem.instances) [];
+  specifics = codes "0";
+  seed = place;
+  settings = settings_at problem config;
+}
+
+-- the run with the full cutoff
+abbrev pub run_at : Problem → List ℕ → ℕ → outside_run.Run
+run_at problem config place = record {
+  key = key_at problem config place;
+  cutoff = record { 0 = problem.limits.cutoff };
+}
+
+-- what each key does, where it is told; else nothing is solved
+abbrev pub told_outcome : Option (Key → Outcome) → Key → Outcome
+told_outcome None key = Unsolved
+told_outcome (Some outcome) key = outcome key
+
+-- the outcome table of a problem
+abbrev pub table_of : Option (Key → Outcome) → Problem → Table
+table_of truth problem config place = told_outcome truth (key_at problem config place)
+
+-- what the uncapped procedure knows of a problem
+abbrev pub setup_of : Problem → Setup
+setup_of problem = record { start = defaults problem.params; max_runs = problem.max_runs }
+
+-- the uncapped procedure over an outcome table
+abbrev pub uncapped_run : Problem → Table → Run
+uncapped_run problem table = uncapped (setup_of problem) (total_cost problem.limits table)

@@ -1,0 +1,226 @@
+-- How the top call ends: its causes, and what it leaves on its output.
+use Rattle.std.specs.Prelude.{ℕ, ◌≡◌, ◌<◌, ◌≤◌, ◌⊎◌, Bool, true, false, IsTrue, length, List, Option, Some, None, IfSome, IsSome}
+use Rattle.objective.specs.Costs.{Table}
+use Rattle.objective.specs.declared.Outcome.{Outcome}
+use Rattle.outside.specs.declared.runs.Key.{Key}
+use Rattle.outside.specs.declared.runs.Run as runs
+use Rattle.outside.specs.Counts.{Rose}
+use Rattle.outside.specs.Meanings.{after_taking}
+use Rattle.param_space.specs.Space.{defaults}
+use Rattle.uncapped.specs.Procedure.{Finished, Aborted}
+use Rattle.uncapped.specs.Totals.{total_cost}
+use Rattle.uncapped.specs.Uncapped.{Run}
+use Rattle.uncapped.specs.Openings.{opening_run}
+use Rattle.tuner.specs.Evaluating.{IsPlace}
+use Rattle.tuner.specs.Lines.{output_of, unbuilt_line, no_memory_line, read_fault_line, seats_line, child_fault_line}
+use Rattle.tuner.specs.Problem.{Reads, Refused, Problem, problem_of, run_at, setup_of, uncapped_run}
+use Rattle.tuner.specs.Refusals.{IsNext}
+use Rattle.tuner.specs.Seats.{first_count, first_run}
+use Rattle.tuner.specs.Writing.{TookPartOf, WroteBadly}
+use Rattle.tuner.specs.declared.reading.refusal.Refusal.{Refusal}
+use Rattle.tuner.specs.declared.reading.refusal.Refusal.TheVariants as refusal
+use Rattle.tuner.specs.declared.seat.Seat.{Seat}
+use Rattle.tuner.specs.declared.status.FileKind.{FileKind}
+use Rattle.tuner.specs.declared.status.Status.{Status}
+use Rattle.tuner.specs.declared.status.Status.TheVariants as status
+
+-- what the first seat tells of a call
+pub record Running : Type 0 where
+  pub truth : Option (Key → Outcome)  -- where it is told
+  pub tables : Problem → Table  -- the outcome table of each problem
+  pub faults : ℕ  -- the count of its spawner before and after the call
+  pub faults' : ℕ
+  pub failed_run : Option runs.Run  -- of its spawner after the call
+
+-- what a call is given, and what its objects tell of it
+pub record Call : Type 0 where
+  pub words : List (List ℕ)
+  pub contents : Option (List ℕ → Option (List ℕ))  -- of the files, where they are told
+  pub reads_failed : ℕ  -- the count of the files before and after
+  pub reads_failed' : ℕ
+  pub seats : ℕ  -- how many there are
+  pub running : Running
+
+-- what is told of a call, by what is told of its files and seats
+abbrev pub call_by : {F S : Type 0} → List (List ℕ) → (F → Option (List ℕ → Option (List ℕ))) → (F → ℕ) → F → F
+    → Option (Key → Outcome) → (Problem → Table) → (S → ℕ) → (S → Option runs.Run) → List (Seat S) → List (Seat S) → Call
+call_by words contents reads_failed files files' truth tables faults failed_run seats seats' = record {
+  words = words;
+  contents = contents files;
+  reads_failed = reads_failed files;
+  reads_failed' = reads_failed files';
+  seats = length seats;
+  running = record {
+    truth = truth;
+    tables = tables;
+    faults = first_count faults seats;
+    faults' = first_count faults seats';
+    failed_run = first_run failed_run seats';
+  };
+}
+
+-- the words and the files, where these are told, state this problem
+abbrev pub States : Call → Problem → Type 0
+States call problem = IfSome call.contents (λ contents. problem_of call.words contents ≡ Reads problem)
+
+-- the run of the uncapped procedure over the seats' truth
+abbrev pub true_run : Running → Problem → Run
+true_run running problem = uncapped_run problem (running.tables problem)
+
+-- the total cost of the default settings over the seats' truth
+abbrev pub true_cost : Running → Problem → Option ℕ
+true_cost running problem = total_cost problem.limits (running.tables problem) (defaults problem.params) problem.max_runs
+
+-- how the runs of a problem may end, with the whole text that is to be printed then
+pub data EndsRunning (running : Running) (problem : Problem) (end : Status) (text : List ℕ) : Type 0 where
+  finished : (x : ℕ) → end ≡ status.Ok → text ≡ output_of problem.params (opening_run (setup_of problem) x)
+      → (IsSome running.truth → true_cost running problem ≡ Some x) → EndsRunning running problem end text
+  aborted : end ≡ status.Unbuilt → text ≡ unbuilt_line
+      → (IsSome running.truth → true_cost running problem ≡ None) → EndsRunning running problem end text
+  child_failed : (place : ℕ) → end ≡ status.ChildFault 0 → text ≡ child_fault_line problem.params place (defaults problem.params)
+      → IsPlace problem.max_runs place → running.failed_run ≡ Some (run_at problem (defaults problem.params) place)
+      → Rose running.faults running.faults' → EndsRunning running problem end text
+  no_memory : end ≡ status.NoMemory → text ≡ no_memory_line → EndsRunning running problem end text
+
+-- how the call may end, with the whole text that it is to print then
+pub data Ends (call : Call) (end : Status) (text : List ℕ) : Type 0 where
+  refused : end ≡ status.Unbuilt → text ≡ unbuilt_line
+      → IfSome call.contents (λ contents. problem_of call.words contents ≡ Refused) → Ends call end text
+  unread : (kind : FileKind) (name : List ℕ) → end ≡ status.ReadFault kind → text ≡ read_fault_line name
+      → IsNext call.words call.contents kind name → Rose call.reads_failed call.reads_failed' → Ends call end text
+  no_seat : (problem : Problem) → end ≡ status.TooFewSeats 1 call.seats → text ≡ seats_line 1 call.seats
+      → States call problem → call.seats < 1 → Ends call end text
+  ran : (problem : Problem) → States call problem → 1 ≤ call.seats → EndsRunning call.running problem end text → Ends call end text
+  no_memory : end ≡ status.NoMemory → text ≡ no_memory_line → Ends call end text
+
+-- what an output takes in a call: its bytes, where they are told, its faults and its empty takings
+pub record Taking : Type 0 where
+  pub before : Option (List ℕ)
+  pub after : Option (List ℕ)
+  pub faults : ℕ
+  pub faults' : ℕ
+  pub empties : ℕ
+  pub empties' : ℕ
+
+-- what is told of an output in a call
+abbrev pub taking_by : {O : Type 0} → (O → Option (List ℕ)) → (O → ℕ) → (O → ℕ) → O → O → Taking
+taking_by taken faults empties out out' = record {
+  before = taken out;
+  after = taken out';
+  faults = faults out;
+  faults' = faults out';
+  empties = empties out;
+  empties' = empties out';
+}
+
+-- the text was written whole and nothing else, or a first part of it with the status that says why
+pub data Said (taking : Taking) (end result : Status) (text : List ℕ) : Type 0 where
+  whole : result ≡ end → taking.after ≡ after_taking taking.before text → Said taking end result text
+  unwritten : result ≡ status.WriteFault → TookPartOf taking.before taking.after text
+      → WroteBadly taking.faults taking.faults' taking.empties taking.empties' → Said taking end result text
+  no_memory : result ≡ status.NoMemory → TookPartOf taking.before taking.after text → Said taking end result text
+
+-- a call that is to end with a text says it, or that there is no memory
+pub data Reported (taking : Taking) (result end : Status) (text : List ℕ) : Type 0 where
+  made : Said taking end result text → Reported taking result end text
+  not_made : Said taking status.NoMemory result no_memory_line → Reported taking result end text
+
+-- a refusal of words and files is said
+abbrev pub ReportsRefusal : Refusal → Taking → Status → Type 0
+ReportsRefusal refusal.Unbuilt taking result = Said taking status.Unbuilt result unbuilt_line
+ReportsRefusal (refusal.ReadFault kind name) taking result = Reported taking result (status.ReadFault kind) (read_fault_line name)
+ReportsRefusal refusal.Memory taking result = Said taking status.NoMemory result no_memory_line
+
+-- how the runs were to end, what was to be printed then, and what came of it
+pub record RunEnding (running : Running) (problem : Problem) (taking : Taking) (result : Status) : Type 0 where
+  pub end : Status
+  pub text : List ℕ
+  pub ends : EndsRunning running problem end text
+  pub said : Said taking end result text
+
+-- how the call was to end, what it was to print then, and what came of it
+pub record Ending (call : Call) (taking : Taking) (result : Status) : Type 0 where
+  pub end : Status
+  pub text : List ℕ
+  pub ends : Ends call end text
+  pub said : Said taking end result text
+
+-- the headline: the bytes that the output took are the entry lines and the last line of the
+-- uncapped procedure over the seats' truth, and nothing else
+pub record Headline (call : Call) (taking : Taking) : Type 0 where
+  pub problem : Problem
+  pub stated : States call problem
+  pub seated : 1 ≤ call.seats
+  pub finished : IsSome call.running.truth → (true_run call.running problem).end ≡ Finished
+  pub printed : IsSome call.running.truth → taking.after ≡ after_taking taking.before (output_of problem.params (true_run call.running problem))
+
+-- the causes of Unbuilt: words or files that are refused, or a child that aborts
+pub data IsUnbuilt (call : Call) : Type 0 where
+  refused : IfSome call.contents (λ contents. problem_of call.words contents ≡ Refused) → IsUnbuilt call
+  aborted : (problem : Problem) → States call problem → 1 ≤ call.seats → (IsSome call.running.truth → (true_run call.running problem).end ≡ Aborted) → IsUnbuilt call
+
+-- the cause of ReadFault: the count rose, and the files before this one have a reading
+pub record IsUnread (call : Call) (kind : FileKind) : Type 0 where
+  pub name : List ℕ
+  pub next : IsNext call.words call.contents kind name
+  pub rose : Rose call.reads_failed call.reads_failed'
+
+-- the cause of ChildFault: the count of seat 0's spawner rose, and its failed run is the one whose place is printed
+pub record IsChildFault (call : Call) (taking : Taking) : Type 0 where
+  pub problem : Problem
+  pub place : ℕ
+  pub stated : States call problem
+  pub seated : 1 ≤ call.seats
+  pub in_range : IsPlace problem.max_runs place
+  pub failed : call.running.failed_run ≡ Some (run_at problem (defaults problem.params) place)
+  pub rose : Rose call.running.faults call.running.faults'
+  pub printed : taking.after ≡ after_taking taking.before (child_fault_line problem.params place (defaults problem.params))
+
+-- the cause of TooFewSeats: words and files state a problem, and there is no seat
+pub record IsTooFew (call : Call) (asked given : ℕ) : Type 0 where
+  pub problem : Problem
+  pub stated : States call problem
+  pub one : asked ≡ 1
+  pub all : given ≡ call.seats
+  pub fewer : given < asked
+
+-- the cause of each answer, but want of memory
+abbrev pub HasCause : Call → Taking → Status → Type 0
+HasCause call taking status.Ok = Headline call taking
+HasCause call taking status.Unbuilt = IsUnbuilt call
+HasCause call taking (status.ReadFault kind) = IsUnread call kind
+HasCause call taking status.WriteFault = WroteBadly taking.faults taking.faults' taking.empties taking.empties'
+HasCause call taking (status.ChildFault seat) = (seat ≡ 0) × IsChildFault call taking
+HasCause call taking (status.TooFewSeats asked given) = IsTooFew call asked given
+HasCause call taking status.NoMemory = Unit {0}
+
+-- where everything that is handed in works, the words and files state a problem, there is a
+-- seat and nothing aborts, the call ends Ok or for want of memory
+pub record IsComplete (call : Call) (taking : Taking) (result : Status) : Type 0 where
+  pub complete : (contents : List ℕ → Option (List ℕ)) (problem : Problem)
+      → call.contents ≡ Some contents → problem_of call.words contents ≡ Reads problem → 1 ≤ call.seats
+      → IsSome call.running.truth → (true_run call.running problem).end ≡ Finished
+      → ¬ Rose call.reads_failed call.reads_failed' → ¬ Rose call.running.faults call.running.faults'
+      → ¬ Rose taking.faults taking.faults' → ¬ Rose taking.empties taking.empties'
+      → (result ≡ status.Ok) ⊎ (result ≡ status.NoMemory)
+
+-- an answer that any call may have: want of memory, a failed read or write
+abbrev pub yields : Status → Bool
+yields status.NoMemory = true
+yields (status.ReadFault kind) = true
+yields status.WriteFault = true
+yields status.Ok = false
+yields status.Unbuilt = false
+yields (status.ChildFault seat) = false
+yields (status.TooFewSeats asked given) = false
+
+-- words or files that are refused give Unbuilt, where nothing else comes in between
+pub record RefusesUnread (call : Call) (result : Status) : Type 0 where
+  pub refuses : (contents : List ℕ → Option (List ℕ)) → call.contents ≡ Some contents
+      → problem_of call.words contents ≡ Refused → (result ≡ status.Unbuilt) ⊎ IsTrue (yields result)
+
+-- a problem without a seat gives TooFewSeats, where nothing else comes in between
+pub record RefusesUnseated (call : Call) (result : Status) : Type 0 where
+  pub refuses : (contents : List ℕ → Option (List ℕ)) (problem : Problem) → call.contents ≡ Some contents
+      → problem_of call.words contents ≡ Reads problem → call.seats < 1
+      → (result ≡ status.TooFewSeats 1 call.seats) ⊎ IsTrue (yields result)

@@ -1,0 +1,174 @@
+-- The accepted words and files, as lists of bytes.
+use Rattle.std.specs.Prelude.{ℕ, ◌*◌, ◌-◌, ◌==◌, Bool, true, false, not, ◌&&◌, ◌||◌, List, [], ◌∷◌, ◌++◌, length, map, nat_le, nat_lt, Option, Some, None, if◌then◌else◌, codes, bytes_eq, position}
+use Rattle.std.specs.List.{list_any, list_all, slice_index_or, slice_split}
+use Rattle.std.specs.Str.{is_utf8}
+use Rattle.plain_text.specs.Words.{is_blank, is_control, is_word}
+use Rattle.plain_text.specs.Decimals.{count_of}
+use Rattle.plain_text.specs.Parts.{after_prefix, before_suffix, parted, ended_lines}
+use Rattle.param_space.specs.declared.lists.Param.{Param}
+use Rattle.param_space.specs.declared.lists.SpaceFault.{SpaceFault}
+use Rattle.param_space.specs.Space.{space_fault}
+
+infixl 10 ◌>>=◌
+-- one reading after another, which takes its value
+abbrev pub ◌>>=◌ : {A B : Type 0} → Option A → (A → Option B) → Option B
+None >>= f = None
+Some x >>= f = f x
+
+-- the value, where the test is true
+abbrev pub only_if : {A : Type 0} → Bool → A → Option A
+only_if true x = Some x
+only_if false x = None
+
+-- what each element is read as, where all have a reading
+abbrev pub all_some : {A B : Type 0} → (A → Option B) → List A → Option (List B)
+all_some f [] = Some []
+all_some f (x ∷ xs) = f x >>= λ y. all_some f xs >>= λ ys. Some (y ∷ ys)
+
+-- ---- the words
+
+-- `-scenariofile F -maxComparisons 0` with a name F that isn't blank
+abbrev pub is_call : List ℕ → List ℕ → List ℕ → List ℕ → Bool
+is_call key file budget_key budget =
+    bytes_eq key (codes "-scenariofile") && (bytes_eq budget_key (codes "-maxComparisons")
+    && (bytes_eq budget (codes "0") && list_any (λ c. not (is_blank c)) file))
+
+-- the scenario file's name, where the words are those
+abbrev pub scenario_name : List (List ℕ) → Option (List ℕ)
+scenario_name [] = None
+scenario_name (a ∷ []) = None
+scenario_name (a ∷ b ∷ []) = None
+scenario_name (a ∷ b ∷ c ∷ []) = None
+scenario_name (key ∷ file ∷ budget_key ∷ budget ∷ []) = only_if (is_call key file budget_key budget) file
+scenario_name (a ∷ b ∷ c ∷ d ∷ e ∷ later) = None
+
+-- ---- a file
+
+-- a text of at most 16 MiB
+abbrev pub is_text : List ℕ → Bool
+is_text bytes = nat_le (length bytes) 16777216 && is_utf8 bytes
+
+-- ---- the scenario file
+
+pub record Scenario : Type 0 where
+  pub algo : List ℕ
+  pub paramfile : List ℕ
+  pub instance_file : List ℕ
+  pub cutoff : ℕ  -- seconds
+  pub runs : ℕ
+
+-- a value: not empty, no `#`, no control character, no blank at its ends
+abbrev pub is_value : List ℕ → Bool
+is_value text =
+    (nat_lt 0 (length text) && list_all (λ b. not (is_control b || (b == 35))) text)
+    && not (is_blank (slice_index_or text 0 32) || is_blank (slice_index_or text (length text - 1) 32))
+
+-- the text after a key, up to the line's end, and what follows that line
+abbrev pub value_line : List ℕ → List ℕ → Option (List ℕ × List ℕ)
+value_line key text = after_prefix key text >>= parted 10
+
+-- a count in a range
+abbrev pub count_within : ℕ → ℕ → List ℕ → Option ℕ
+count_within low high text = count_of text >>= λ n. only_if (nat_le low n && nat_le n high) n
+
+-- what stands between the cutoff time and the number of pairs, and after it
+abbrev pub runs_key : List ℕ
+runs_key = codes "cap_floor = 0.000001\napproach = basic\nN = "
+
+abbrev pub last_lines : List ℕ
+last_lines = codes "r = 0\ns = 1\np_restart = 0\npair_order = file\n"
+
+pub record Names : Type 0 where
+  pub algo : List ℕ
+  pub paramfile : List ℕ
+  pub instance_file : List ℕ
+  pub rest : List ℕ
+
+-- the first three lines, and what follows them
+unfoldable pub names_of : List ℕ → Option Names
+names_of text = do
+  algo ← value_line (codes "algo = ") text
+  params ← value_line (codes "paramfile = ") algo.1
+  instances ← value_line (codes "instance_file = ") params.1
+  only_if ((is_value algo.0 && is_value params.0) && is_value instances.0)
+      (record { algo = algo.0; paramfile = params.0; instance_file = instances.0; rest = instances.1 })
+
+-- the cutoff time and the number of pairs in the other eight lines
+unfoldable pub numbers_of : List ℕ → Option (ℕ × ℕ)
+numbers_of text = do
+  time ← value_line (codes "cutoff_time = ") text
+  runs ← value_line runs_key time.1
+  cutoff ← count_within 1 1000000 time.0
+  n ← count_within 1 10000 runs.0
+  only_if (bytes_eq runs.1 last_lines) (cutoff, n)
+
+-- the eleven lines of a scenario file, in order
+unfoldable pub scenario_of : List ℕ → Option Scenario
+scenario_of text = do
+  names ← names_of text
+  numbers ← numbers_of names.rest
+  Some (record {
+    algo = names.algo;
+    paramfile = names.paramfile;
+    instance_file = names.instance_file;
+    cutoff = numbers.0;
+    runs = numbers.1;
+  })
+
+-- ---- the parameter file
+
+-- values parted by a comma and a space
+abbrev pub values_from : List (List ℕ) → Option (List (List ℕ))
+values_from [] = None
+values_from (first ∷ later) = all_some (after_prefix (codes " ")) later >>= λ others. Some (first ∷ others)
+
+unfoldable pub values_of : List ℕ → Option (List (List ℕ))
+values_of text = values_from (slice_split (λ b. b == 44) text)
+
+-- at most 256 values, and the default's number among them
+abbrev pub numbered : List ℕ → List (List ℕ) → List ℕ → Option Param
+numbered name values default =
+    position (λ v. bytes_eq v default) values >>= λ number.
+    only_if (nat_le (length values) 256) (record { name = name; values = values; default = number })
+
+pub record RawParam : Type 0 where
+  pub name : List ℕ
+  pub values : List ℕ
+  pub default : List ℕ
+
+-- the parts of `name {v1, v2} [default]`
+unfoldable pub raw_param_of : List ℕ → Option RawParam
+raw_param_of line = do
+  head ← parted 123 line
+  inner ← parted 125 head.1
+  name ← before_suffix (codes " ") head.0
+  bracket ← after_prefix (codes " [") inner.1
+  default ← before_suffix (codes "]") bracket
+  Some (record { name = name; values = inner.0; default = default })
+
+-- a parameter line
+unfoldable pub param_of : List ℕ → Option Param
+param_of line = do
+  raw ← raw_param_of line
+  values ← values_of raw.values
+  numbered raw.name values raw.default
+
+-- the parameters, where they break no rule
+abbrev pub sound : List Param → Option SpaceFault → Option (List Param)
+sound params None = Some params
+sound params (Some _) = None
+
+-- parameter lines, each ended by a line feed, that make a space
+unfoldable pub params_of : List ℕ → Option (List Param)
+params_of text = do
+  lines ← ended_lines text
+  params ← all_some param_of lines
+  sound params (space_fault params)
+
+-- ---- the instance file
+
+-- 1 to 100,000 words, one on each line, each ended by a line feed
+unfoldable pub instances_of : List ℕ → Option (List (List ℕ))
+instances_of text = do
+  names ← ended_lines text
+  only_if ((nat_le 1 (length names) && nat_le (length names) 100000) && list_all is_word names) names

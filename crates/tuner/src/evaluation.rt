@@ -1,0 +1,113 @@
+//! The evaluation of a configuration on all pairs, in full.
+ghost use Rattle.std.specs.Prelude.{◌≡◌, ◌≤◌, ◌*◌, IsTrue, Some, None, IfSome, option_map};
+ghost use Rattle.objective.specs.Costs.{cost_of, IsWithin};
+ghost use Rattle.objective.specs.declared.Outcome.{Outcome};
+ghost use Rattle.outside.specs.Counts.{Rose};
+ghost use Rattle.outside.specs.declared.runs.Key.{Key};
+ghost use Rattle.param_space.specs.Space.{Belongs};
+ghost use Rattle.uncapped.specs.Totals.{total_cost};
+ghost use Rattle.tuner.specs.Problem.{table_of, run_at};
+ghost use Rattle.tuner.specs.Evaluating.{cost_seen, IfSum, OnAborted, IfFailed, IsPlace};
+
+use crate::problem::Problem;
+use crate::running::{RunEnd, run_once};
+use objective::{Answer, Limits, Sum, add, penalty};
+use outside::Spawner;
+use param_space::Config;
+use std::alloc::Global;
+use std::sync::Wait;
+
+/// How an evaluation ends.
+#[derive(Clone, Copy, Debug)]
+pub(crate) enum Evaluated {
+    /// All runs were made, and this is their total cost.
+    Sum(Sum),
+    /// A child asked for the end of the tuning.
+    Aborted,
+    /// The child at this place, from 1, couldn't be started or looked at.
+    Failed {
+        /// The place.
+        place: u32,
+    },
+    /// There is no memory left.
+    Memory,
+}
+
+/// What an answer under the full cutoff costs. None exactly for an abort.
+fn cost_of_answer(answer: Answer, limits: &Limits) -> Option<Sum>
+    requires { IsWithin answer limits.now.cutoff }
+    ensures value { option_map (λ s. s.0) result ≡ cost_seen limits.now answer }
+    ensures bound { IfSome result (λ s. s.0 ≤ 1_000_000_000_000_000) }
+{
+    let _ = &limits.cutoff; // the type keeps it in range
+    match answer {
+        Answer::Solved(t) => Some(Sum(t.0)),
+        Answer::Timeout | Answer::Crashed => Some(penalty(limits)),
+        Answer::Abort => None,
+    }
+}
+
+/// What a configuration's run at a place costs, as the evaluation of that place alone.
+fn cost_at<R: Wait, S: Spawner>(
+    rt: &R,
+    alloc: Global,
+    problem: &Problem,
+    config: &Config,
+    place: u32,
+    spawner: &mut S,
+) -> Evaluated
+    requires idle { IsTrue (S.idle spawner.old) }
+    requires belongs { Belongs problem.now.params config.now }
+    requires first { 1 ≤ place }
+    ensures idle { IsTrue (S.idle spawner.new) }
+    ensures counts { S.faults spawner.old ≤ S.faults spawner.new }
+    ensures sum { IfSum result (λ x. (outcome : Key → Outcome) → S.truth ≡ Some outcome → cost_of problem.now.limits (table_of (Some outcome) problem.now config.now place) ≡ Some x) }
+    ensures bound { IfSum result (λ x. x ≤ 1_000_000_000_000_000) }
+    ensures aborted { OnAborted result ((outcome : Key → Outcome) → S.truth ≡ Some outcome → cost_of problem.now.limits (table_of (Some outcome) problem.now config.now place) ≡ None) }
+    ensures failed { IfFailed result (λ i. i ≡ place) }
+    ensures fault { IfFailed result (λ i. Rose (S.faults spawner.old) (S.faults spawner.new)) }
+    ensures failed_run { IfFailed result (λ i. S.failed_run spawner.new ≡ Some (run_at problem.now config.now place)) }
+{
+    let Ok(run) = problem.run_at(alloc, config, place) else {
+        return Evaluated::Memory;
+    };
+    match run_once(rt, alloc, spawner, &problem.program, &run) {
+        RunEnd::Answer(answer) => match cost_of_answer(answer, &problem.limits) {
+            Some(cost) => Evaluated::Sum(cost),
+            None => Evaluated::Aborted,
+        },
+        RunEnd::Failed => Evaluated::Failed { place },
+        RunEnd::Memory => Evaluated::Memory,
+    }
+}
+
+/// The total cost of a configuration on all pairs of a comparison, one run after another
+/// under the full cutoff. It may wait.
+pub(crate) fn evaluate<R: Wait, S: Spawner>(
+    rt: &R,
+    alloc: Global,
+    problem: &Problem,
+    config: &Config,
+    spawner: &mut S,
+) -> Evaluated
+    requires idle { IsTrue (S.idle spawner.old) }
+    requires belongs { Belongs problem.now.params config.now }
+    ensures idle { IsTrue (S.idle spawner.new) }
+    ensures counts { S.faults spawner.old ≤ S.faults spawner.new }
+    ensures sum { IfSum result (λ x. (outcome : Key → Outcome) → S.truth ≡ Some outcome → total_cost problem.now.limits (table_of (Some outcome) problem.now) config.now problem.now.max_runs ≡ Some x) }
+    ensures aborted { OnAborted result ((outcome : Key → Outcome) → S.truth ≡ Some outcome → total_cost problem.now.limits (table_of (Some outcome) problem.now) config.now problem.now.max_runs ≡ None) }
+    ensures failed { IfFailed result (λ place. IsPlace problem.now.max_runs place) }
+    ensures fault { IfFailed result (λ place. Rose (S.faults spawner.old) (S.faults spawner.new)) }
+    ensures failed_run { IfFailed result (λ place. S.failed_run spawner.new ≡ Some (run_at problem.now config.now place)) }
+{
+    let mut sum = Sum(0);
+    for done in 0..problem.max_runs {
+        match cost_at(rt, alloc, problem, config, done + 1, spawner) {
+            Evaluated::Sum(cost) => sum = add(sum, cost),
+            Evaluated::Aborted => return Evaluated::Aborted,
+            Evaluated::Failed { place } => return Evaluated::Failed { place },
+            Evaluated::Memory => return Evaluated::Memory,
+        }
+    }
+    Evaluated::Sum(sum)
+}

@@ -1,0 +1,82 @@
+//! What is tuned, and its runs.
+ghost use Rattle.std.specs.Prelude.{◌≡◌, ◌≤◌, IfOk, ◌<◌, length, map};
+ghost use Rattle.param_space.specs.Space.{Belongs, defaults};
+ghost use Rattle.param_space.specs.Settings.{named_values};
+ghost use Rattle.tuner.specs.Problem.{run_at as run_of, key_at as key_of, setting_from};
+
+use objective::{Limits, Memory};
+use outside::{Key, Program, Run, Setting};
+use param_space::{Config, Param, Space};
+use plain_text::{Items, Text};
+use std::alloc::Global;
+use std::marker::Model;
+
+/// A program with its parameter space, the instances, the number of pairs of a comparison
+/// and the limits of a run. Its type keeps that there is an instance and 1 to 10,000 pairs.
+#[derive(Drop)]
+pub struct Problem {
+    pub(crate) program: Program,
+    pub(crate) space: Space,
+    pub(crate) instances: Items<Text>,
+    pub(crate) max_runs: u32,
+    pub(crate) limits: Limits,
+}
+
+impl Model for Problem {
+    ghost use Rattle.tuner.specs.Problem as problem;
+    ghost use Rattle.tuner.specs.InRange.{IsProblem};
+
+    ghost Value = { problem.Problem };
+
+    ghost view = { λ p. record { program = p.program; params = p.space.params; instances = p.instances; max_runs = p.max_runs; limits = p.limits } };
+
+    ghost invariant = { λ p. IsProblem p.instances p.max_runs };
+}
+
+/// The settings of a configuration: each parameter's name with its value.
+fn settings_of(alloc: Global, params: &[Param], values: &[u16]) -> Result<Vec<Setting>, Memory>
+    requires { Belongs params.now values.now }
+    ensures { IfOk result (λ v. v.items ≡ map setting_from (named_values params.now values.now)) }
+{
+    let mut settings = Vec::new(alloc);
+    for (i, param) in params.iter().enumerate() {
+        let value = &param.values.as_slice()[values[i] as usize];
+        settings.push(Setting {
+            name: param.name.copy()?,
+            value: value.copy()?,
+        })?;
+    }
+    Ok(settings)
+}
+
+impl Problem {
+    /// What a configuration's run at a place is of: the instance whose turn it is, and the
+    /// place as the seed.
+    fn key_at(&self, alloc: Global, config: &Config, place: u32) -> Result<Key, Memory>
+        requires belongs { Belongs self.now.params config.now }
+        requires first { 1 ≤ place }
+        ensures { IfOk result (λ k. k ≡ key_of self.now config.now place) }
+    {
+        let instances = self.instances.as_slice();
+        let turn = (place - 1) as usize % instances.len();
+        let settings = settings_of(alloc, self.space.params(), config.values())?;
+        Ok(Key {
+            instance: instances[turn].copy()?,
+            specifics: Text::of(alloc, "0")?,
+            seed: place,
+            settings: Items::new(settings),
+        })
+    }
+
+    /// The run of a configuration at a place, from 1, under the full cutoff.
+    pub(crate) fn run_at(&self, alloc: Global, config: &Config, place: u32) -> Result<Run, Memory>
+        requires belongs { Belongs self.now.params config.now }
+        requires first { 1 ≤ place }
+        ensures { IfOk result (λ r. r ≡ run_of self.now config.now place) }
+    {
+        Ok(Run {
+            key: self.key_at(alloc, config, place)?,
+            cutoff: self.limits.cutoff,
+        })
+    }
+}

@@ -1,0 +1,8 @@
+//! The readers of words and files in their plainest form.
+pub(crate) mod instances;
+pub(crate) mod params;
+pub(crate) mod problems;
+pub(crate) mod refusal;
+pub(crate) mod scenario;
+pub(crate) mod texts;
+pub(crate) mod words;

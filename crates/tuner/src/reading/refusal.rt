@@ -1,0 +1,31 @@
+//! Why words and files make no problem.
+ghost use Rattle.std.specs.Prelude.{◌≡◌};
+ghost use Rattle.tuner.specs.declared.reading.refusal.Refusal.TheVariants.{Memory as NoMemory};
+
+use crate::status::FileKind;
+use objective::Memory;
+use plain_text::Text;
+
+/// Why words and files make no problem.
+#[derive(Drop)]
+pub(crate) enum Refusal {
+    /// The words or a file aren't of the form that is built so far.
+    Unbuilt,
+    /// A file couldn't be read.
+    ReadFault {
+        /// Which file.
+        kind: FileKind,
+        /// Its name.
+        name: Text,
+    },
+    /// There is no memory left.
+    Memory,
+}
+
+impl From<Memory> for Refusal {
+    ghost from_gives = { λ _ refusal. refusal ≡ NoMemory };
+
+    fn from(_e: Memory) -> Refusal {
+        Refusal::Memory
+    }
+}

@@ -1,0 +1,74 @@
+//! One run: a child is started, waited for and read.
+ghost use Rattle.std.specs.Prelude.{◌≡◌, ◌≤◌, IsTrue, Some, true, false};
+ghost use Rattle.std.specs.Bool.{MatchBool};
+ghost use Rattle.objective.specs.Costs.{seen, IsWithin};
+ghost use Rattle.objective.specs.declared.Outcome.{Outcome};
+ghost use Rattle.outside.specs.Counts.{Rose};
+ghost use Rattle.outside.specs.declared.runs.Key.{Key};
+ghost use Rattle.tuner.specs.Running.{IfAnswer, OnFailed};
+
+use objective::Answer;
+use outside::{Fault, Poll, Program, Run, Spawner, answer_of, words_of};
+use std::alloc::Global;
+use std::sync::Wait;
+
+/// How a run ends.
+#[derive(Clone, Copy, Debug)]
+pub(crate) enum RunEnd {
+    /// The child ended, and its output shows this.
+    Answer(Answer),
+    /// The child couldn't be started or looked at.
+    Failed,
+    /// There is no memory left.
+    Memory,
+}
+
+/// Waits until the child has ended. False where a look failed.
+fn wait_for_end<R: Wait, S: Spawner>(rt: &R, spawner: &mut S) -> bool
+    requires { S.idle spawner.old ≡ false }
+    ensures idle { IsTrue (S.idle spawner.new) }
+    ensures counts { S.faults spawner.old ≤ S.faults spawner.new }
+    ensures same { S.current spawner.new ≡ S.current spawner.old }
+    ensures ended { MatchBool result (IsTrue (S.held spawner.new)) (Rose (S.faults spawner.old) (S.faults spawner.new)) }
+    ensures failed_run { result ≡ false → S.failed_run spawner.new ≡ S.current spawner.old }
+{
+    for _ in rt.forever() {
+        match spawner.poll() {
+            Ok(Poll::Ended) => return true,
+            Ok(Poll::Pending) => spawner.pause(),
+            Err(_) => return false,
+        }
+    }
+    unreachable!()
+}
+
+/// Runs a program once: the child is started, waited for and its output read. It may wait.
+pub(crate) fn run_once<R: Wait, S: Spawner>(
+    rt: &R,
+    alloc: Global,
+    spawner: &mut S,
+    program: &Program,
+    run: &Run,
+) -> RunEnd
+    requires { IsTrue (S.idle spawner.old) }
+    ensures idle { IsTrue (S.idle spawner.new) }
+    ensures counts { S.faults spawner.old ≤ S.faults spawner.new }
+    ensures answer { IfAnswer result (λ a. (outcome : Key → Outcome) → S.truth ≡ Some outcome → a ≡ seen (outcome run.now.key) run.now.cutoff.0) }
+    ensures within { IfAnswer result (λ a. IsWithin a run.now.cutoff.0) }
+    ensures fault { OnFailed result (Rose (S.faults spawner.old) (S.faults spawner.new)) }
+    ensures failed_run { OnFailed result (S.failed_run spawner.new ≡ Some run.now) }
+{
+    let Ok(words) = words_of(alloc, program, run) else {
+        return RunEnd::Memory;
+    };
+    match spawner.start(program.dir.as_str(), words.as_slice(), run) {
+        Ok(()) => {}
+        Err(Fault::Failed) => return RunEnd::Failed,
+        Err(Fault::Memory) => return RunEnd::Memory,
+    }
+    if wait_for_end(rt, spawner) {
+        RunEnd::Answer(answer_of(spawner.output(), run.cutoff))
+    } else {
+        RunEnd::Failed
+    }
+}

@@ -1,0 +1,96 @@
+//! The top call.
+ghost use Rattle.std.specs.Prelude.{◌≡◌, ◌≤◌, ◌<◌, ◌⊎◌, ℕ, IsTrue, All, List, Option, Some, IfSome, IsSome, length};
+ghost use Rattle.objective.specs.declared.Outcome.{Outcome};
+ghost use Rattle.outside.specs.Counts.{Rose};
+ghost use Rattle.uncapped.specs.Procedure.{Finished};
+ghost use Rattle.tuner.specs.Problem.{Problem as Stated, problem_of, Reads, Refused, uncapped_run};
+ghost use Rattle.tuner.specs.Promises.{taking_by, call_by, Ending, HasCause, Headline, IsComplete, RefusesUnread, RefusesUnseated, ReportsRefusal, Reported};
+ghost use Rattle.tuner.specs.Seats.{spawner_of, first_count, first_run};
+ghost use Rattle.tuner.specs.Lines.{seats_line as seats_text};
+
+use crate::finishing::run_default;
+use crate::lines::{read_fault_line, seats_line};
+use crate::reading::problems::read_problem;
+use crate::reading::refusal::Refusal;
+use crate::saying::say;
+use crate::seat::Seat;
+use crate::status::Status;
+use crate::truth::Truth;
+use objective::World;
+use outside::{Files, Sink, Spawner};
+use plain_text::Text;
+use std::alloc::Global;
+use std::sync::Wait;
+
+/// Prints why words and files make no problem.
+fn refuse<O: Sink>(alloc: Global, refusal: Refusal, out: &mut O) -> Status
+    ensures { ReportsRefusal refusal (taking_by O.taken O.faults O.empties out.old out.new) result }
+{
+    match refusal {
+        Refusal::Unbuilt => say(out, b"unbuilt\n", Status::Unbuilt),
+        Refusal::ReadFault { kind, name } => match read_fault_line(alloc, name.as_str()) {
+            Ok(line) => say(out, line.as_bytes(), Status::ReadFault { kind }),
+            Err(_) => say(out, b"nomemory\n", Status::NoMemory),
+        },
+        Refusal::Memory => say(out, b"nomemory\n", Status::NoMemory),
+    }
+}
+
+/// Prints that there is no seat.
+fn refuse_seats<O: Sink>(alloc: Global, out: &mut O) -> Status
+    ensures { Reported (taking_by O.taken O.faults O.empties out.old out.new) result (Status.TooFewSeats 1 0) (seats_text 1 0) }
+{
+    match seats_line(alloc, 1, 0) {
+        Ok(line) => say(
+            out,
+            line.as_bytes(),
+            Status::TooFewSeats { asked: 1, given: 0 },
+        ),
+        Err(_) => say(out, b"nomemory\n", Status::NoMemory),
+    }
+}
+
+/// Tunes: reads the words and the files that they name, runs the default settings on all
+/// pairs by the first seat, and prints one entry and the last line. It may wait.
+///
+/// `out` gets the lines; `log` gets nothing yet. The status says how it ended, and each
+/// answer but `NoMemory` has its cause in a clause.
+pub fn tune<R: Wait, F: Files, O: Sink, S: Spawner + Send>(
+    rt: &R,
+    alloc: Global,
+    words: &[Text],
+    files: &mut F,
+    out: &mut O,
+    log: &mut O,
+    seats: &mut [Seat<S>],
+) -> Status
+    requires { All (λ seat. IsTrue (S.idle (spawner_of seat))) seats.old }
+
+    // With Ok the output took the lines of the uncapped procedure, and nothing else.
+    ensures headline { result ≡ Status.Ok → Headline (call_by words.now F.contents F.faults files.old files.new S.truth ⟦<Truth<S> as World>⟧.outcome S.faults S.failed_run seats.old seats.new) (taking_by O.taken O.faults O.empties out.old out.new) }
+
+    // Each other answer but NoMemory has its cause.
+    ensures cause { HasCause (call_by words.now F.contents F.faults files.old files.new S.truth ⟦<Truth<S> as World>⟧.outcome S.faults S.failed_run seats.old seats.new) (taking_by O.taken O.faults O.empties out.old out.new) result }
+    ensures unbuilt { RefusesUnread (call_by words.now F.contents F.faults files.old files.new S.truth ⟦<Truth<S> as World>⟧.outcome S.faults S.failed_run seats.old seats.new) result }
+    ensures too_few { RefusesUnseated (call_by words.now F.contents F.faults files.old files.new S.truth ⟦<Truth<S> as World>⟧.outcome S.faults S.failed_run seats.old seats.new) result }
+
+    // Where everything works the answer is Ok, or NoMemory.
+    ensures complete { IsComplete (call_by words.now F.contents F.faults files.old files.new S.truth ⟦<Truth<S> as World>⟧.outcome S.faults S.failed_run seats.old seats.new) (taking_by O.taken O.faults O.empties out.old out.new) result }
+
+    // What the output holds after each answer, also where it couldn't be written whole.
+    ensures ending { Ending (call_by words.now F.contents F.faults files.old files.new S.truth ⟦<Truth<S> as World>⟧.outcome S.faults S.failed_run seats.old seats.new) (taking_by O.taken O.faults O.empties out.old out.new) result }
+    ensures log { log.new ≡ log.old }
+    ensures idle { All (λ seat. IsTrue (S.idle (spawner_of seat))) seats.new }
+{
+    let _ = &log;
+    let problem = match read_problem(alloc, words, files) {
+        Ok(problem) => problem,
+        Err(refusal) => return refuse(alloc, refusal, out),
+    };
+    if seats.is_empty() {
+        return refuse_seats(alloc, out);
+    }
+    let seat = &mut seats[0];
+    seat.clear();
+    run_default(rt, alloc, &problem, out, &mut seat.spawner)
+}

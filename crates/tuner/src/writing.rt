@@ -1,0 +1,36 @@
+//! Pieces that are written whole.
+ghost use Rattle.std.specs.Prelude.{◌≡◌, ◌≤◌, OnOk, IfErr};
+ghost use Rattle.outside.specs.Counts.{Rose};
+ghost use Rattle.outside.specs.Meanings.{after_taking};
+ghost use Rattle.tuner.specs.Writing.{TookPartOf, IsUnwrittenFor};
+
+use outside::{Fault, Sink};
+
+/// Why a piece wasn't written whole.
+#[derive(Clone, Copy, Debug)]
+pub(crate) enum Unwritten {
+    /// A write failed, or took nothing of a piece that isn't empty.
+    Fault,
+    /// There is no memory left.
+    Memory,
+}
+
+/// Writes a whole piece. After a refusal a first part of it was taken, and nothing else.
+pub(crate) fn write_whole<O: Sink>(out: &mut O, piece: &[u8]) -> Result<(), Unwritten>
+    ensures whole { OnOk result (O.taken out.new ≡ after_taking (O.taken out.old) piece.now) }
+    ensures part { TookPartOf (O.taken out.old) (O.taken out.new) piece.now }
+    ensures counts { O.faults out.old ≤ O.faults out.new }
+    ensures empties { O.empties out.old ≤ O.empties out.new }
+    ensures cause { IfErr result (λ e. IsUnwrittenFor e (O.faults out.old) (O.faults out.new) (O.empties out.old) (O.empties out.new)) }
+{
+    let mut rest = piece;
+    while !rest.is_empty() {
+        match out.write(rest) {
+            Ok(0) => return Err(Unwritten::Fault),
+            Ok(taken) => rest = &rest[taken..],
+            Err(Fault::Failed) => return Err(Unwritten::Fault),
+            Err(Fault::Memory) => return Err(Unwritten::Memory),
+        }
+    }
+    Ok(())
+}
