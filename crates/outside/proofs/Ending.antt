@@ -1,5 +1,5 @@
 -- An ended child's output reads as its run's outcome.
-use Rattle.std.proofs.Common.{◌≡◌, true, false, Option, Some, None}
+use Rattle.std.proofs.Common.{◌≡◌, false, Option, Some, None}
 use Rattle.std.specs.Option.{IfSome}
 use Rattle.objective.specs.declared.Outcome.{Outcome}
 use Rattle.outside.specs.Seats.{Tells, Reads, is_idle}

@@ -1,8 +1,7 @@
 -- Reading a result line.
-use Rattle.std.proofs.Common.{ℕ, ◌≡◌, ◌-◌, ◌==◌, Bool, true, List, length, take, drop, Option, Some, None, codes, bytes_eq, refl, sym, ap, ◌∙◌}
+use Rattle.std.proofs.Common.{ℕ, ◌≡◌, ◌-◌, ◌==◌, true, List, length, take, drop, Some, codes, bytes_eq, ap, ◌∙◌}
 use Rattle.std.specs.List.{before_first, after_first}
 use Rattle.plain_text.specs.Parts.{after_prefix, before_suffix}
-use Rattle.objective.specs.declared.Answer.{Answer}
 use Rattle.outside.specs.Results.{answer_of, answer_after, answer_between, answer_from, answer_by, micros_from}
 
 after_prefix-some : (p xs ys : List ℕ) → bytes_eq (take (length p) xs) p ≡ true → ys ≡ drop (length p) xs → after_prefix p xs ≡ Some ys

@@ -1,5 +1,5 @@
 -- A result line is read as the answer that it shows.
-use Rattle.std.proofs.Common.{ℕ, ◌≡◌, ◌<◌, ◌≤◌, ◌+◌, ◌-◌, ◌*◌, ◌/◌, ◌%◌, ◌^◌, ◌==◌, Bool, true, false, List, [], ◌∷◌, ◌++◌, length, take, drop, Option, Some, None, codes, refl, sym, ap, ◌∙◌, arith, rules, subst, append_assoc, length-append}
+use Rattle.std.proofs.Common.{ℕ, ◌≡◌, ◌<◌, ◌+◌, ◌*◌, ◌/◌, ◌%◌, ◌^◌, ◌==◌, true, false, List, [], ◌∷◌, ◌++◌, length, Some, refl, sym, ap, ◌∙◌, arith, append_assoc, length-append}
 use Rattle.std.specs.Char.{is_ascii_digit, digit_value}
 use Rattle.std.specs.Fmt.{decimal}
 use Rattle.std.specs.List.{list_all, position_or_len, before_first, after_first}
@@ -11,7 +11,7 @@ use Rattle.std.proofs.Math.Nat.{div-div-eq-div-mul}
 use Rattle.std.proofs.Math.Seq.{take-append_seam}
 use Rattle.plain_text.specs.Decimals.{seconds, six_digits}
 use Rattle.plain_text.proofs.Digits.{digits_model}
-use Rattle.outside.specs.Results.{micros_of, micros_from, is_time}
+use Rattle.outside.specs.Results.{micros_of, is_time}
 use Rattle.outside.proofs.Times.{digits_value-joined}
 
 point_place : (ds rest : List ℕ) → list_all is_ascii_digit ds ≡ true → position_or_len (λ b. b == 46) (ds ++ 46 ∷ rest) ≡ length ds

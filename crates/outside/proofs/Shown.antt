@@ -1,5 +1,5 @@
 -- The line that shows an answer is read as that answer.
-use Rattle.std.proofs.Common.{ℕ, ◌≡◌, ◌<◌, ◌≤◌, ◌-◌, ◌^◌, Bool, true, false, List, ◌++◌, length, take, Option, Some, codes, refl, sym, ap, ◌∙◌, arith, rules, nat_le, if◌then◌else◌, length-append}
+use Rattle.std.proofs.Common.{ℕ, ◌≡◌, ◌<◌, ◌≤◌, ◌-◌, ◌^◌, Bool, true, false, List, ◌++◌, length, Some, codes, refl, sym, ap, ◌∙◌, arith, nat_le, if◌then◌else◌, length-append}
 use Rattle.std.proofs.lemmas.Bool.Decides.{nat_tests}
 use Rattle.std.proofs.Math.Seq.{take-append_seam}
 use Rattle.plain_text.specs.Decimals.{seconds}

@@ -1,8 +1,12 @@
 //! Happy paths of each implementation in memory, and the faults that they are told to have.
+ghost use Rattle.std.specs.Prelude.{IsTrue, codes};
+ghost use Rattle.outside.specs.Runs.{AreWordsOf};
+
 use super::*;
 use objective::{Answer, Memory, Micros, Outcome};
 use plain_text::{Items, Text};
 use std::alloc::Global;
+use std::process::Abort;
 use std::test::Fail as Failed;
 
 /// Each run is solved after three seconds.
@@ -21,12 +25,16 @@ impl Table for Steady {
 
 /// A run of the instance `one` under this cutoff.
 fn example_run(alloc: Global, cutoff: Micros) -> Result<Run, Memory> {
-    let settings = Items::new(Vec::new(alloc));
+    let mut settings = Vec::new(alloc);
+    settings.push(Setting {
+        name: Text::of(alloc, "x")?,
+        value: Text::of(alloc, "a")?,
+    })?;
     let key = Key {
         instance: Text::of(alloc, "one")?,
         specifics: Text::of(alloc, "0")?,
         seed: 1,
-        settings,
+        settings: Items::new(settings),
     };
     Ok(Run { key, cutoff })
 }
@@ -35,39 +43,42 @@ fn numbers(alloc: Global, all: &[u32]) -> Result<Items<u32>, Memory> {
     Ok(Items::new(Vec::from_slice(alloc, all)?))
 }
 
+fn example_script(alloc: Global) -> Result<Script, Memory> {
+    Ok(Script {
+        pending: numbers(alloc, &[1])?,
+        bad_starts: numbers(alloc, &[2])?,
+        bad_polls: numbers(alloc, &[3])?,
+        stuck: numbers(alloc, &[4])?,
+    })
+}
+
+/// The first child ends at the second look; the second start and the third look fail.
+fn follow(rt: &impl Abort, seat: &mut TableSeat<Steady>, words: &[Text], run: &Run)
+    requires idle { IsTrue seat.old.idle }
+    requires words { AreWordsOf (codes ".") words.now run.now }
+{
+    assert!(rt; seat.start(".", words, run).is_ok());
+    assert!(rt; matches!(seat.poll(), Ok(Poll::Pending)));
+    assert!(rt; matches!(seat.poll(), Ok(Poll::Ended)));
+    assert_eq!(rt;
+        answer_of(seat.output(), run.cutoff),
+        Answer::Solved(Micros(3_000_000))
+    );
+    assert!(rt; seat.start(".", words, run).is_err());
+    assert!(rt; seat.start(".", words, run).is_ok());
+    assert!(rt; seat.poll().is_err());
+    assert_eq!(rt; (seat.starts().len(), seat.faults()), (2, 2));
+}
+
 #[test]
 fn seat_follows_its_script(rt: HostRuntime) -> Result<(), Failed> {
     let alloc = rt.alloc();
     let program = read_program(alloc, "sh run", ".", 7)?;
     let run = example_run(alloc, Micros(10_000_000))?;
     let words = words_of(alloc, &program, &run)?;
-    let script = Script {
-        pending: numbers(alloc, &[2])?,
-        bad_starts: numbers(alloc, &[2])?,
-        bad_polls: numbers(alloc, &[4])?,
-        stuck: numbers(alloc, &[4])?,
-    };
-    let mut seat: TableSeat<Steady> = TableSeat::new(alloc, script)?;
-    let dir = program.dir.as_str();
-    assert!(rt; seat.start(dir, words.as_slice(), &run).is_ok());
-    assert!(rt; matches!(seat.poll(), Ok(Poll::Pending)));
-    assert!(rt; matches!(seat.poll(), Ok(Poll::Pending)));
-    assert!(rt; matches!(seat.poll(), Ok(Poll::Ended)));
-    assert_eq!(rt;
-        seat.output(),
-        b"Result for ParamILS: SAT, 3.000000, 0, 0, 0\n".as_slice()
-    );
-    assert_eq!(rt;
-        answer_of(seat.output(), run.cutoff),
-        Answer::Solved(Micros(3_000_000))
-    );
-    assert!(rt; matches!(seat.start(dir, words.as_slice(), &run), Err(Fault::Failed)));
-    assert!(rt; seat.start(dir, words.as_slice(), &run).is_ok());
-    assert!(rt; seat.poll().is_err());
-    assert!(rt; seat.start(dir, words.as_slice(), &run).is_ok());
-    assert!(rt; matches!(seat.poll(), Ok(Poll::Pending)));
-    seat.kill();
-    assert_eq!(rt; (seat.starts().len(), seat.faults()), (3, 2));
+    assert_eq!(rt; words.len(), 9);
+    let mut seat: TableSeat<Steady> = TableSeat::new(alloc, example_script(alloc)?)?;
+    follow(&rt, &mut seat, words.as_slice(), &run);
     Ok(())
 }
 

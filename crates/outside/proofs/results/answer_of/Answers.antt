@@ -1,5 +1,4 @@
 use Rattle.std.proofs.Common.{◌∙◌, sym, rules}
-use Rattle.outside.proofs.Shown as trip
 use Rattle.outside.proofs.Lines.{answer_of-parts}
 use Rattle.outside.proofs.results.answer_of.Goals as goal
 

@@ -1,6 +1,5 @@
 use Rattle.std.proofs.Common.{[], rules, append_assoc}
 use Rattle.std.proofs.lemmas.List.Elements.{filter-append}
-use Rattle.std.proofs.lemmas.Grind.{flat_map-append}
 use Rattle.outside.proofs.Words.{take_more-map}
 use Rattle.outside.proofs.runs.push_tab_parted.Goals as goal
 

@@ -1,0 +1,6 @@
+use Rattle.std.proofs.Common.{◌≡◌, false}
+use Rattle.paramils.proofs.tests.has_ended.Given as goal
+
+-- the child runs still
+abbrev pub invariant-loop : goal.invariant-loop
+invariant-loop g l = g.S.Spawner.idle l.seat ≡ false

@@ -1,0 +1,6 @@
+//! Whole tunings over files, output and seats in memory, with the values that they must
+//! print. There is no code here, only tests.
+#![tactic(auto)]
+
+#[cfg(test)]
+mod tests;

@@ -1,0 +1,310 @@
+//! The default settings on two pairs.
+use objective::{Memory, Micros, Outcome};
+use outside::{Key, MemoryFiles, MemorySink, Script, Table, TableSeat};
+use plain_text::{Items, Text};
+use std::alloc::Global;
+use std::test::Fail;
+use tuner::{Seat, Status, tune};
+
+/// The default settings cost three seconds on the first pair and four on the second.
+struct ThreeAndFour;
+
+impl Table for ThreeAndFour {
+    ghost use Rattle.std.specs.Prelude.{◌==◌, if◌then◌else◌};
+    ghost use Rattle.objective.specs.declared.Outcome.TheVariants.{Solved};
+
+    ghost outcome = { λ key. Solved (record { 0 = if key.seed == 1 then 3000000 else 4000000 }) };
+
+    fn outcome(key: &Key) -> Outcome {
+        Outcome::Solved(Micros(if key.seed == 1 { 3_000_000 } else { 4_000_000 }))
+    }
+}
+
+/// Each run asks for the end of the tuning after a second.
+struct Aborting;
+
+impl Table for Aborting {
+    ghost use Rattle.objective.specs.declared.Outcome.TheVariants.{Abort};
+
+    ghost outcome = { λ key. Abort (record { 0 = 1000000 }) };
+
+    fn outcome(_key: &Key) -> Outcome {
+        Outcome::Abort(Micros(1_000_000))
+    }
+}
+
+/// The first pair is never solved, the second crashes after a second.
+struct Unlucky;
+
+impl Table for Unlucky {
+    ghost use Rattle.std.specs.Prelude.{◌==◌, if◌then◌else◌};
+    ghost use Rattle.objective.specs.declared.Outcome.TheVariants.{Unsolved, Crashed};
+
+    ghost outcome = { λ key. if key.seed == 1 then Unsolved else Crashed (record { 0 = 1000000 }) };
+
+    fn outcome(key: &Key) -> Outcome {
+        if key.seed == 1 {
+            Outcome::Unsolved
+        } else {
+            Outcome::Crashed(Micros(1_000_000))
+        }
+    }
+}
+
+const SCENARIO: &str =
+    "algo = w\nparamfile = p\ninstance_file = i\ncutoff_time = 10\ncap_floor = 0.000001\napproach = basic\nN = 2\nr = 0\ns = 1\np_restart = 0\npair_order = file\n";
+
+const WORDS: [&str; 4] = ["-scenariofile", "s", "-maxComparisons", "0"];
+
+/// The words as texts.
+fn texts(alloc: Global, words: &[&str]) -> Result<Vec<Text>, Memory> {
+    let mut texts = Vec::new(alloc);
+    for word in words {
+        texts.push(Text::of(alloc, word)?)?;
+    }
+    Ok(texts)
+}
+
+/// The three files of the example.
+fn folder(alloc: Global) -> Result<MemoryFiles, Memory> {
+    let mut files = MemoryFiles::new(alloc);
+    files.put("s", SCENARIO.as_bytes())?;
+    files.put("p", b"x {a, b} [a]\n")?;
+    files.put("i", b"one\n")?;
+    Ok(files)
+}
+
+/// A list of these numbers.
+fn numbers(alloc: Global, numbers: &[u32]) -> Result<Items<u32>, Memory> {
+    Ok(Items::new(Vec::from_slice(alloc, numbers)?))
+}
+
+/// A script without faults, under which the first two children are looked at more than once.
+fn quiet(alloc: Global) -> Result<Script, Memory> {
+    Ok(Script {
+        pending: numbers(alloc, &[3, 1])?,
+        bad_starts: numbers(alloc, &[])?,
+        bad_polls: numbers(alloc, &[])?,
+        stuck: numbers(alloc, &[])?,
+    })
+}
+
+#[test]
+fn default_settings_print_one_entry(rt: HostRuntime) -> Result<(), Fail> {
+    let alloc = rt.alloc();
+    let (mut files, words) = (folder(alloc)?, texts(alloc, &WORDS)?);
+    let (mut out, mut log) = (MemorySink::new(alloc), MemorySink::new(alloc));
+    let mut seats = [Seat::new(TableSeat::<ThreeAndFour>::new(alloc, quiet(alloc)?)?)];
+    let status = tune(
+        &rt,
+        alloc,
+        words.as_slice(),
+        &mut files,
+        &mut out,
+        &mut log,
+        &mut seats,
+    );
+    assert_eq!(rt; status, Status::Ok);
+    assert_eq!(rt; status.code(), 0);
+    assert_eq!(rt;
+        out.bytes(),
+        b"0 2 7.000000 x=a\nend 0 2 7.000000 x=a\n".as_slice()
+    );
+    assert!(rt; log.bytes().is_empty());
+    let wanted = [
+        ["w", "one", "0", "10.000000", "2147483647", "1", "-x", "a"],
+        ["w", "one", "0", "10.000000", "2147483647", "2", "-x", "a"],
+    ];
+    let starts = seats[0].spawner().starts();
+    assert_eq!(rt; starts.len(), 2);
+    for (start, wanted) in starts.iter().zip(&wanted) {
+        assert_eq!(rt; start.as_slice().len(), wanted.len());
+        for (word, wanted) in start.as_slice().iter().zip(wanted) {
+            assert_eq!(rt; word.as_str(), *wanted);
+        }
+    }
+    Ok(())
+}
+
+#[test]
+fn failed_children_are_named(rt: HostRuntime) -> Result<(), Fail> {
+    let alloc = rt.alloc();
+    let words = texts(alloc, &WORDS)?;
+    // The first start fails; the second look does, where no child is pending.
+    for (bad_start, bad_poll, wanted) in [
+        (1, 0, "childfault 1 x=a\n"),
+        (0, 2, "childfault 2 x=a\n"),
+    ] {
+        let script = Script {
+            pending: numbers(alloc, &[])?,
+            bad_starts: numbers(alloc, &[bad_start])?,
+            bad_polls: numbers(alloc, &[bad_poll])?,
+            stuck: numbers(alloc, &[])?,
+        };
+        let mut files = folder(alloc)?;
+        let (mut out, mut log) = (MemorySink::new(alloc), MemorySink::new(alloc));
+        let mut seats = [Seat::new(TableSeat::<ThreeAndFour>::new(alloc, script)?)];
+        let status = tune(
+            &rt,
+            alloc,
+            words.as_slice(),
+            &mut files,
+            &mut out,
+            &mut log,
+            &mut seats,
+        );
+        assert_eq!(rt; status, Status::ChildFault { seat: 0 });
+        assert_eq!(rt; status.code(), 7);
+        assert_eq!(rt; out.bytes(), wanted.as_bytes());
+        assert_eq!(rt; seats[0].spawner().faults(), 1);
+    }
+    Ok(())
+}
+
+#[test]
+fn writes_that_fail_end_the_call(rt: HostRuntime) -> Result<(), Fail> {
+    let alloc = rt.alloc();
+    let words = texts(alloc, &WORDS)?;
+    // The first write fails; the second takes nothing, after the entry's line.
+    for (failing, empty, wanted) in [(1, 0, ""), (0, 2, "0 2 7.000000 x=a\n")] {
+        let mut files = folder(alloc)?;
+        let (mut out, mut log) = (MemorySink::new(alloc), MemorySink::new(alloc));
+        out.fail_at(failing)?;
+        out.nothing_at(empty)?;
+        let mut seats = [Seat::new(TableSeat::<ThreeAndFour>::new(alloc, quiet(alloc)?)?)];
+        let status = tune(
+            &rt,
+            alloc,
+            words.as_slice(),
+            &mut files,
+            &mut out,
+            &mut log,
+            &mut seats,
+        );
+        assert_eq!(rt; status, Status::WriteFault);
+        assert_eq!(rt; status.code(), 5);
+        assert_eq!(rt; out.bytes(), wanted.as_bytes());
+    }
+    Ok(())
+}
+
+#[test]
+fn files_that_fail_and_files_of_another_form(rt: HostRuntime) -> Result<(), Fail> {
+    let alloc = rt.alloc();
+    let words = texts(alloc, &WORDS)?;
+    // A file with other contents, the read that fails, and the line and the status that follow.
+    for (name, contents, failing, wanted, code) in [
+        ("other", "", 1, "readfault s\n", 4),
+        ("other", "", 2, "readfault p\n", 4),
+        ("s", "", 0, "unbuilt\n", 10),
+        ("s", "algo = w\nspeed = 3\n", 0, "unbuilt\n", 10),
+        ("p", "x {a, b} [c]\n", 0, "unbuilt\n", 10),
+        ("p", "x {a,b} [a]\n", 0, "unbuilt\n", 10),
+        ("i", "", 0, "unbuilt\n", 10),
+        ("i", "one two\n", 0, "unbuilt\n", 10),
+    ] {
+        let mut files = folder(alloc)?;
+        files.put(name, contents.as_bytes())?;
+        files.fail_at(failing)?;
+        let (mut out, mut log) = (MemorySink::new(alloc), MemorySink::new(alloc));
+        let mut seats = [Seat::new(TableSeat::<ThreeAndFour>::new(alloc, quiet(alloc)?)?)];
+        let status = tune(
+            &rt,
+            alloc,
+            words.as_slice(),
+            &mut files,
+            &mut out,
+            &mut log,
+            &mut seats,
+        );
+        assert_eq!(rt; status.code(), code, "{name}: {contents}");
+        assert_eq!(rt; out.bytes(), wanted.as_bytes(), "{name}: {contents}");
+    }
+    Ok(())
+}
+
+#[test]
+fn other_words_no_seat_and_an_abort(rt: HostRuntime) -> Result<(), Fail> {
+    let alloc = rt.alloc();
+    let (mut files, words) = (folder(alloc)?, texts(alloc, &WORDS)?);
+    let (mut out, mut log) = (MemorySink::new(alloc), MemorySink::new(alloc));
+    let mut none: [Seat<TableSeat<ThreeAndFour>>; 0] = [];
+    let status = tune(
+        &rt,
+        alloc,
+        words.as_slice(),
+        &mut files,
+        &mut out,
+        &mut log,
+        &mut none,
+    );
+    assert_eq!(rt; status, Status::TooFewSeats { asked: 1, given: 0 });
+    assert_eq!(rt; out.bytes(), b"seats 1 0\n".as_slice());
+    let mut out = MemorySink::new(alloc);
+    let mut seats = [Seat::new(TableSeat::<Aborting>::new(alloc, quiet(alloc)?)?)];
+    let status = tune(
+        &rt,
+        alloc,
+        words.as_slice(),
+        &mut files,
+        &mut out,
+        &mut log,
+        &mut seats,
+    );
+    assert_eq!(rt; status, Status::Unbuilt);
+    let status = tune(&rt, alloc, &[], &mut files, &mut out, &mut log, &mut seats);
+    assert_eq!(rt; status, Status::Unbuilt);
+    assert_eq!(rt; out.bytes(), b"unbuilt\nunbuilt\n".as_slice());
+    let mut out = MemorySink::new(alloc);
+    let mut seats = [Seat::new(TableSeat::<Unlucky>::new(alloc, quiet(alloc)?)?)];
+    let status = tune(
+        &rt,
+        alloc,
+        words.as_slice(),
+        &mut files,
+        &mut out,
+        &mut log,
+        &mut seats,
+    );
+    assert_eq!(rt; status, Status::Ok);
+    assert_eq!(rt;
+        out.bytes(),
+        b"0 2 20.000000 x=a\nend 0 2 20.000000 x=a\n".as_slice()
+    );
+    Ok(())
+}
+
+/// What a tuning may leave on its output where an allocation was refused.
+fn may_stand(status: Status, bytes: &[u8]) -> bool {
+    let whole = b"0 2 7.000000 x=a\nend 0 2 7.000000 x=a\n".as_slice();
+    match status {
+        Status::Ok => bytes == whole,
+        Status::NoMemory => bytes == b"nomemory\n".as_slice() || whole.starts_with(bytes),
+        _ => false,
+    }
+}
+
+// Run it by `rt try --test --fail-alloc 1..`, which refuses each allocation in turn.
+#[test]
+fn refused_memory_gives_no_other_answer(rt: HostRuntime) {
+    let alloc = rt.alloc();
+    let (mut out, mut log) = (MemorySink::new(alloc), MemorySink::new(alloc));
+    let (Ok(mut files), Ok(words), Ok(script)) = (folder(alloc), texts(alloc, &WORDS), quiet(alloc))
+    else {
+        return;
+    };
+    let Ok(seat) = TableSeat::<ThreeAndFour>::new(alloc, script) else {
+        return;
+    };
+    let mut seats = [Seat::new(seat)];
+    let status = tune(
+        &rt,
+        alloc,
+        words.as_slice(),
+        &mut files,
+        &mut out,
+        &mut log,
+        &mut seats,
+    );
+    assert!(rt; may_stand(status, out.bytes()), "{status:?}");
+}
