@@ -1,4 +1,4 @@
--- Counts of faults, which never fall and stand still at the greatest u64.
+-- Counts of faults, which rise by one at each failure and stand still at the greatest u64.
 use Rattle.std.specs.Prelude.{ℕ, suc, ◌≤◌, ◌-◌, ◌^◌, min, Bool, true, false}
 
 -- one more, where the number has room for it

@@ -1,5 +1,5 @@
 -- How the calls of files, sinks and spawners change what they tell.
-use Rattle.std.specs.Prelude.{ℕ, Bool, true, false, not, ◌==◌, ◌&&◌, List, ◌++◌, ◌∷◌, [], length, nat_lt, Option, Some, None, Result, Ok, Err}
+use Rattle.std.specs.Prelude.{ℕ, Bool, true, false, ◌==◌, ◌&&◌, List, ◌++◌, ◌∷◌, [], length, nat_lt, Option, Some, None, Result, Ok, Err}
 use Rattle.outside.specs.declared.faults.Fault.{Fault}
 use Rattle.outside.specs.declared.faults.Fault.TheVariants.{Failed, Memory}
 use Rattle.outside.specs.declared.faults.Fail.{Fail}

@@ -6,7 +6,7 @@ ghost use Rattle.plain_text.specs.Decimals.{seconds};
 ghost use Rattle.outside.specs.Runs.{blank_parted, setting_words, words_of as words_for};
 
 use objective::{Memory, Micros};
-use plain_text::{Items, Text, pieces};
+use plain_text::{Items, Text, pieces, seconds_text};
 use std::alloc::Global;
 
 /// The program that is tuned.
@@ -156,21 +156,6 @@ pub fn read_program(
     })
 }
 
-/// The time as whole seconds, a point and six digits.
-pub(crate) fn seconds_text(alloc: Global, time: Micros) -> Result<Text, Memory>
-    ensures { IfOk result (λ t. t ≡ seconds time.0) }
-{
-    let micros = time.0;
-    let whole = micros / 1_000_000;
-    let (a, b, c) = (
-        micros / 100_000 % 10,
-        micros / 10_000 % 10,
-        micros / 1000 % 10,
-    );
-    let (d, e, f) = (micros / 100 % 10, micros / 10 % 10, micros % 10);
-    Ok(Text::new(format!(in alloc; "{whole}.{a}{b}{c}{d}{e}{f}")?))
-}
-
 /// A number in decimal digits.
 fn number_text(alloc: Global, number: u32) -> Result<Text, Memory>
     ensures { IfOk result (λ t. t ≡ decimal number) }
@@ -197,7 +182,7 @@ pub fn words_of(alloc: Global, program: &Program, run: &Run) -> Result<Vec<Text>
     let mut words = copy_texts(alloc, program.words.as_slice())?;
     words.push(run.key.instance.copy()?)?;
     words.push(run.key.specifics.copy()?)?;
-    words.push(seconds_text(alloc, run.cutoff)?)?;
+    words.push(seconds_text(alloc, run.cutoff.0)?)?;
     words.push(number_text(alloc, program.cutoff_length)?)?;
     words.push(number_text(alloc, run.key.seed)?)?;
     push_settings(alloc, &mut words, run.key.settings.as_slice())?;

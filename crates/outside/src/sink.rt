@@ -1,6 +1,6 @@
 //! Output.
-ghost use Rattle.std.specs.Prelude.{◌≡◌, ℕ, ◌≤◌, IsTrue, List, Option, length, take, IfOk, OnErr};
-ghost use Rattle.outside.specs.Counts.{Rose, counted};
+ghost use Rattle.std.specs.Prelude.{◌≡◌, ℕ, ◌≤◌, List, Option, length, take, IfOk, OnErr};
+ghost use Rattle.outside.specs.Counts.{counted};
 ghost use Rattle.outside.specs.Meanings.{has_failed, after_taking, is_empty_taking};
 
 use crate::faults::Fault;
@@ -23,6 +23,6 @@ pub trait Sink {
         ensures refused { OnErr result (taken self.new ≡ taken self.old) }
         ensures emptied { empties self.new ≡ counted (is_empty_taking result piece.now) (empties self.old) }
         ensures never_falls { empties self.old ≤ empties self.new }
-        ensures failed { IsTrue (has_failed result) → Rose (faults self.old) (faults self.new) }
+        ensures counted { faults self.new ≡ counted (has_failed result) (faults self.old) }
         ensures counts { faults self.old ≤ faults self.new };
 }

@@ -6,11 +6,11 @@ ghost use Rattle.outside.specs.Seats.{Reads};
 
 use crate::faults::{Fail, Fault, Poll};
 use crate::numbers::has_number;
-use crate::runs::{Key, Run, copy_texts, seconds_text};
+use crate::runs::{Key, Run, copy_texts};
 use crate::spawner::Spawner;
 use crate::table::Table;
 use objective::{Answer, Memory, Micros, seen};
-use plain_text::{Items, Text};
+use plain_text::{Items, Text, seconds_text};
 use std::alloc::Global;
 use std::marker::{Model, PhantomData};
 
@@ -84,7 +84,7 @@ impl<T: Table> Model for TableSeat<T> {
 fn result_text(alloc: Global, word: &str, time: Micros) -> Result<Text, Memory>
     ensures { IfOk result (λ t. t ≡ result_line word.now time.0) }
 {
-    let seconds = seconds_text(alloc, time)?;
+    let seconds = seconds_text(alloc, time.0)?;
     let seconds = seconds.as_str();
     Ok(Text::new(format!(in alloc; "Result for ParamILS: {word}, {seconds}, 0, 0, 0\n")?))
 }

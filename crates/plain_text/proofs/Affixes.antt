@@ -1,8 +1,6 @@
 -- What `strip_prefix` and `strip_suffix` give, in the words of `after_prefix` and `before_suffix`.
-use Rattle.std.proofs.Common.{ℕ, ◌≡◌, ◌-◌, Bool, true, false, List, ◌++◌, Option, Some, None, Bor, length, take, drop, refl, sym, ap, ◌∙◌, subst, arith, rules}
-use Rattle.std.specs.Option.{MatchOption, option_copied}
+use Rattle.std.proofs.Common.{ℕ, ◌≡◌, ◌-◌, true, false, List, ◌++◌, Some, None, length, take, drop, sym, ap, ◌∙◌}
 use Rattle.std.specs.Str.{bytes_eq}
-use Rattle.std.specs.Str.Pattern.{FindsTextPrefix, FindsTextSuffix, StripsPrefix, StripsSuffix}
 use Rattle.std.proofs.lemmas.Bool.{false_from_ne_true}
 use Rattle.std.proofs.lemmas.List.{take-append-drop}
 use Rattle.std.proofs.lemmas.List.Prefix.{end_rest, front_rest}

@@ -1,5 +1,5 @@
 -- A list of parts that is taken apart at its end.
-use Rattle.std.proofs.Common.{ℕ, ◌≡◌, ◌+◌, ◌-◌, ◌==◌, Bool, true, false, cond, List, [], ◌∷◌, ◌++◌, Option, Some, None, Bor, length, get_or, take, map, refl, sym, ap, ◌∙◌, arith, rules, length-append}
+use Rattle.std.proofs.Common.{ℕ, ◌≡◌, ◌-◌, ◌==◌, Bool, true, false, cond, List, [], ◌∷◌, ◌++◌, Option, Some, None, Bor, length, map, refl, sym, ap, ◌∙◌, arith, length-append}
 use Rattle.std.specs.Bool.{then_some}
 use Rattle.std.specs.List.{slice_split}
 use Rattle.std.specs.Option.{option_map}

@@ -1,5 +1,5 @@
 -- Parts of a text: what stands before, between and after other texts.
-use Rattle.std.specs.Prelude.{ℕ, ◌-◌, ◌+◌, ◌==◌, Bool, ◌&&◌, List, [], ◌∷◌, ◌++◌, length, take, drop, nat_lt, Option, Some, None, if◌then◌else◌, bytes_eq}
+use Rattle.std.specs.Prelude.{ℕ, ◌-◌, ◌==◌, List, [], length, take, drop, nat_lt, Option, Some, None, if◌then◌else◌, bytes_eq}
 use Rattle.std.specs.List.{before_first, after_first, position_or_len, slice_split, slice_index_or}
 
 -- what follows a text at the head of a list

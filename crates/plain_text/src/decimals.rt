@@ -1,7 +1,8 @@
 //! Counts that are read and seconds that are written.
-ghost use Rattle.std.specs.Prelude.{◌≡◌, ◌++◌, OnOk, OnErr};
+ghost use Rattle.std.specs.Prelude.{◌≡◌, ◌++◌, IfOk, OnOk, OnErr};
 ghost use Rattle.plain_text.specs.Decimals.{count_of, seconds};
 
+use crate::text::Text;
 use objective::Memory;
 use std::alloc::Global;
 use std::str;
@@ -22,10 +23,9 @@ pub fn read_count(text: &[u8]) -> Option<u64>
     }
 }
 
-/// Appends a time in microseconds as whole seconds, a point and six digits.
-pub fn push_seconds(alloc: Global, out: &mut Vec<u8>, micros: u64) -> Result<(), Memory>
-    ensures ok { OnOk result (out.new.items ≡ out.old.items ++ seconds micros) }
-    ensures err { OnErr result (out.new.items ≡ out.old.items) }
+/// A time in microseconds as whole seconds, a point and six digits.
+pub fn seconds_text(alloc: Global, micros: u64) -> Result<Text, Memory>
+    ensures { IfOk result (λ t. t ≡ seconds micros) }
 {
     let whole = micros / 1_000_000;
     let (a, b, c) = (
@@ -34,7 +34,16 @@ pub fn push_seconds(alloc: Global, out: &mut Vec<u8>, micros: u64) -> Result<(),
         micros / 1000 % 10,
     );
     let (d, e, f) = (micros / 100 % 10, micros / 10 % 10, micros % 10);
-    let text = format!(in alloc; "{whole}.{a}{b}{c}{d}{e}{f}")?;
-    out.extend_from_slice(text.as_bytes())?;
+    Ok(Text::new(format!(in alloc; "{whole}.{a}{b}{c}{d}{e}{f}")?))
+}
+
+/// Appends a time in microseconds as whole seconds, a point and six digits. After want of
+/// memory `out` is as it was.
+pub fn push_seconds(alloc: Global, out: &mut Vec<u8>, micros: u64) -> Result<(), Memory>
+    ensures ok { OnOk result (out.new.items ≡ out.old.items ++ seconds micros) }
+    ensures err { OnErr result (out.new.items ≡ out.old.items) }
+{
+    let text = seconds_text(alloc, micros)?;
+    out.extend_from_slice(text.as_str().as_bytes())?;
     Ok(())
 }

@@ -9,7 +9,7 @@ mod text;
 mod words;
 
 pub use cuts::{after_prefix, before_suffix, parted};
-pub use decimals::{push_seconds, read_count};
+pub use decimals::{push_seconds, read_count, seconds_text};
 pub use items::Items;
 pub use parts::{ended_lines, pieces};
 pub use text::Text;

@@ -1,9 +1,9 @@
 -- What a run under the full cutoff shows costs what its outcome costs.
-use Rattle.std.proofs.Common.{ℕ, ◌≡◌, ◌≤◌, ◌+◌, zero, suc, Bool, true, false, cond, Option, Some, None, List, refl, sym, ap, ◌∙◌, arith, rules, inl, inr}
+use Rattle.std.proofs.Common.{ℕ, ◌≡◌, ◌≤◌, ◌+◌, zero, suc, Bool, true, false, cond, Option, Some, None, List, refl, sym, ap, ◌∙◌, arith, inl, inr}
 use Rattle.std.specs.Prelude.{nat_le}
 use Rattle.std.proofs.lemmas.Bool.{cases_lt}
 use Rattle.objective.specs.Bounds.{Bounds}
-use Rattle.objective.specs.Costs.{Table, seen, cost_of, cost_within, penalty}
+use Rattle.objective.specs.Costs.{Table, seen, cost_of, cost_within}
 use Rattle.objective.specs.declared.Micros.{Micros}
 use Rattle.objective.specs.declared.Outcome.{Outcome}
 use Rattle.objective.specs.declared.Outcome.TheVariants as outcome

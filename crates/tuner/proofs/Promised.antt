@@ -1,14 +1,13 @@
 -- The promises of the top call follow from how it ended.
-use Rattle.std.proofs.Common.{ℕ, ◌≡◌, ◌≤◌, ◌<◌, ◌⊎◌, List, Option, Some, None, refl, sym, ap, subst, ◌∙◌, inl, inr, arith}
-use Rattle.std.specs.Prelude.{IfSome, IsSome, IsTrue}
+use Rattle.std.proofs.Common.{ℕ, ◌≡◌, ◌≤◌, ◌⊎◌, List, Option, Some, refl, sym, ap, subst, ◌∙◌, inl, inr, arith}
+use Rattle.std.specs.Prelude.{IfSome, IsSome}
 use Rattle.outside.specs.Counts.{Rose}
 use Rattle.outside.specs.Meanings.{after_taking}
-use Rattle.param_space.specs.Space.{defaults}
-use Rattle.uncapped.specs.Procedure.{Finished, Aborted, End}
+use Rattle.uncapped.specs.Procedure.{Finished, Aborted}
 use Rattle.uncapped.specs.Totals.{total_cost}
-use Rattle.uncapped.specs.Openings.{uncapped-known, uncapped-unknown, opening_run}
+use Rattle.uncapped.specs.Openings.{uncapped-known, uncapped-unknown}
 use Rattle.tuner.specs.Lines.{output_of}
-use Rattle.tuner.specs.Problem.{Problem, Reading, Reads, Refused, problem_of, setup_of, uncapped_run}
+use Rattle.tuner.specs.Problem.{Problem, Reading, Reads, Refused, problem_of, setup_of}
 use Rattle.tuner.specs.Promises as promises
 use Rattle.tuner.specs.Writing.{WroteBadly, failed, nothing_taken}
 use Rattle.tuner.specs.declared.status.Status.{Status}

@@ -1,5 +1,5 @@
 -- How the runs of the default settings end.
-use Rattle.std.proofs.Common.{ℕ, ◌≡◌, List, Option, Some, None, refl, sym, ap, subst, ◌∙◌}
+use Rattle.std.proofs.Common.{ℕ, ◌≡◌, List, Option, Some, None, refl, ap, subst, ◌∙◌}
 use Rattle.std.specs.Prelude.{IsSome}
 use Rattle.objective.specs.declared.Outcome.{Outcome}
 use Rattle.outside.specs.declared.runs.Key.{Key}
@@ -11,7 +11,7 @@ use Rattle.uncapped.specs.Openings.{opening_run}
 use Rattle.tuner.specs.Evaluating.{IsPlace}
 use Rattle.tuner.specs.Lines.{output_of, child_fault_line}
 use Rattle.tuner.specs.Problem.{Problem, table_of, run_at, setup_of}
-use Rattle.tuner.specs.Promises.{Running, Taking, RunEnding, EndsRunning, finished, child_failed, no_memory, Reported, made, not_made, true_cost}
+use Rattle.tuner.specs.Promises.{Running, Taking, RunEnding, EndsRunning, finished, child_failed, no_memory, Reported, made, not_made}
 use Rattle.tuner.specs.declared.status.Status.{Status}
 use Rattle.tuner.specs.declared.status.Status.TheVariants as status
 

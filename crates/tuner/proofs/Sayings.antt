@@ -1,9 +1,8 @@
 -- Two texts that are said one after the other.
-use Rattle.std.proofs.Common.{ℕ, ◌≡◌, ◌≤◌, ◌<◌, ◌+◌, List, ◌++◌, Option, length, take, sym, ap, subst, ◌∙◌, arith, inl, inr, take_all}
+use Rattle.std.proofs.Common.{ℕ, ◌≡◌, ◌≤◌, ◌+◌, List, ◌++◌, Option, length, take, sym, ap, subst, ◌∙◌, arith, inl, inr, take_all}
 use Rattle.std.proofs.lemmas.Bool.{cases_lt}
 use Rattle.std.proofs.lemmas.List.{take-append-le}
 use Rattle.std.proofs.Math.Seq.{take-append_seam, take-append-add}
-use Rattle.outside.specs.Counts.{Rose}
 use Rattle.outside.specs.Meanings.{after_taking}
 use Rattle.tuner.specs.Writing.{TookPartOf, WroteBadly, failed, nothing_taken}
 use Rattle.tuner.specs.Promises.{Said, whole, unwritten, no_memory, Reported, made, Taking}

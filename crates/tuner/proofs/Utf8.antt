@@ -1,5 +1,5 @@
 -- What a test for UTF-8 says.
-use Rattle.std.proofs.Common.{ℕ, ◌≡◌, ◌≤◌, Bool, true, false, ◌&&◌, List, Result, Ok, Err, length, refl, sym, ap, ◌∙◌, arith, rules}
+use Rattle.std.proofs.Common.{ℕ, ◌≡◌, ◌≤◌, Bool, true, false, ◌&&◌, List, Result, Ok, Err, length, sym, arith}
 use Rattle.std.specs.Prelude.{nat_le}
 use Rattle.std.specs.Result.{MatchResult, is_ok}
 use Rattle.std.specs.Str.{IsUtf8, is_utf8}

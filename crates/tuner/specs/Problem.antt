@@ -1,5 +1,5 @@
 -- What is tuned: the reading of words and files as a problem, and its runs.
-use Rattle.std.specs.Prelude.{ℕ, ◌+◌, ◌*◌, ◌-◌, ◌%◌, List, [], ◌∷◌, length, map, Option, Some, None, if◌then◌else◌, codes}
+use Rattle.std.specs.Prelude.{ℕ, ◌*◌, ◌-◌, ◌%◌, List, [], length, map, Option, Some, None, if◌then◌else◌, codes}
 use Rattle.std.specs.List.{slice_index_or}
 use Rattle.objective.specs.Bounds.{Bounds}
 use Rattle.objective.specs.Costs.{Table}

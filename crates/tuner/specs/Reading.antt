@@ -1,5 +1,5 @@
 -- The accepted words and files, as lists of bytes.
-use Rattle.std.specs.Prelude.{ℕ, ◌*◌, ◌-◌, ◌==◌, Bool, true, false, not, ◌&&◌, ◌||◌, List, [], ◌∷◌, ◌++◌, length, map, nat_le, nat_lt, Option, Some, None, if◌then◌else◌, codes, bytes_eq, position}
+use Rattle.std.specs.Prelude.{ℕ, ◌-◌, ◌==◌, Bool, true, false, not, ◌&&◌, ◌||◌, List, [], ◌∷◌, length, nat_le, nat_lt, Option, Some, None, codes, bytes_eq, position}
 use Rattle.std.specs.List.{list_any, list_all, slice_index_or, slice_split}
 use Rattle.std.specs.Str.{is_utf8}
 use Rattle.plain_text.specs.Words.{is_blank, is_control, is_word}

@@ -1,7 +1,7 @@
 -- Why words and files make no problem.
 use Rattle.std.specs.Prelude.{ℕ, ◌≡◌, List, Option, IfSome}
 use Rattle.outside.specs.Counts.{Rose}
-use Rattle.tuner.specs.Problem.{Reading, Reads, Refused, Problem, problem_of, file_name}
+use Rattle.tuner.specs.Problem.{Reading, Reads, Refused, file_name}
 use Rattle.tuner.specs.declared.reading.refusal.Refusal.{Refusal}
 use Rattle.tuner.specs.declared.reading.refusal.Refusal.TheVariants.{Unbuilt, ReadFault, Memory}
 use Rattle.tuner.specs.declared.status.FileKind.{FileKind}

@@ -1,5 +1,4 @@
 -- How a run ends, by cases.
-use Rattle.std.specs.Prelude.{ℕ}
 use Rattle.objective.specs.declared.Answer.{Answer}
 use Rattle.tuner.specs.declared.running.RunEnd.{RunEnd}
 use Rattle.tuner.specs.declared.running.RunEnd.TheVariants as end

@@ -1,5 +1,4 @@
 -- What the readers' values stand for.
-use Rattle.std.specs.Prelude.{ℕ, List}
 use Rattle.tuner.specs.Reading as reading
 use Rattle.tuner.specs.declared.reading.params.RawParam.{RawParam}
 use Rattle.tuner.specs.declared.reading.scenario.Names.{Names}

@@ -1,9 +1,8 @@
 -- The default settings on two places that cost 3 and 4 seconds, computed.
-use Rattle.std.specs.Prelude.{ℕ, zero, suc, ◌≡◌, List, [], ◌∷◌, Some, None, refl}
+use Rattle.std.specs.Prelude.{zero, suc, ◌≡◌, [], ◌∷◌, None, refl}
 use Rattle.objective.specs.Bounds.{Bounds}
 use Rattle.objective.specs.Costs.{Table}
 use Rattle.objective.specs.declared.Factor.TheVariants.{One}
-use Rattle.objective.specs.declared.Outcome.{Outcome}
 use Rattle.objective.specs.declared.Outcome.TheVariants.{Solved, Abort}
 use Rattle.uncapped.specs.Totals.{total_cost}
 use Rattle.uncapped.specs.Procedure.{Finished, Aborted}

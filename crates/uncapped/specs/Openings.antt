@@ -1,9 +1,8 @@
 -- What the uncapped procedure comes to while its budget allows no comparison.
-use Rattle.std.specs.Prelude.{ℕ, ◌≡◌, max, true, List, [], ◌∷◌, Some, None, bytes_eq, refl}
-use Rattle.std.proofs.Common.{arith, rules, ap, sym, ◌∙◌}
+use Rattle.std.specs.Prelude.{ℕ, ◌≡◌, true, List, [], ◌∷◌, Some, None, bytes_eq, refl}
 use Rattle.std.proofs.Math.Nat.{zero-max}
 use Rattle.std.proofs.lemmas.Slice.Eq.{bytes_eq-Decides}
-use Rattle.uncapped.specs.Procedure.{Settings, Sums, Finished, Aborted}
+use Rattle.uncapped.specs.Procedure.{Sums, Finished, Aborted}
 use Rattle.uncapped.specs.Uncapped.{Setup, Run, uncapped, measure, opening_basic}
 
 -- the run with one entry, that of the default

@@ -1,7 +1,7 @@
 -- The uncapped procedure: every evaluation is made in full, one run after another
 -- (ParamILS framework, Hutter et al., JAIR 36). So far its budget allows no comparison.
-use Rattle.std.specs.Prelude.{ℕ, ◌≡◌, ◌+◌, max, List, [], ◌∷◌, ◌++◌, Option, Some, None, length, bytes_eq, if◌then◌else◌, refl}
-use Rattle.uncapped.specs.Procedure.{Settings, Sums, Question, Incumbent, Addition, PlainState, End, Finished, Aborted, Step, Goes, Ends, Procedure, goes_on, ◌>>=◌, ◌>>◌, give, becomes, stop, known}
+use Rattle.std.specs.Prelude.{ℕ, max, List, [], ◌∷◌, ◌++◌, Option, Some, None, length, bytes_eq, if◌then◌else◌}
+use Rattle.uncapped.specs.Procedure.{Settings, Sums, Question, Incumbent, Addition, PlainState, End, Finished, Step, Goes, Ends, Procedure, ◌>>=◌, ◌>>◌, give, becomes, stop, known}
 
 -- what the procedure knows beside the sums
 pub record Setup : Type 0 where

@@ -1,4 +1,4 @@
-use Rattle.std.proofs.Common.{ℕ, ◌≡◌, ◌-◌, List, ◌++◌, Option, Some, None, Bor, length, take, ap, sym, ◌∙◌}
+use Rattle.std.proofs.Common.{ℕ, ◌≡◌, ◌-◌, List, Option, Some, None, Bor, length, take, ap, ◌∙◌}
 use Rattle.std.specs.Option.{MatchOption, option_copied}
 use Rattle.std.specs.Str.Pattern.{FindsTextSuffix, StripsSuffix}
 use Rattle.plain_text.specs.Parts.{before_suffix}

@@ -1,4 +1,4 @@
-use Rattle.std.proofs.Common.{rules, ◌≡◌, ◌-◌, ◌++◌, List, [], Bor, ℕ, take, vec_len, ◌∙◌, ap, arith, refl}
+use Rattle.std.proofs.Common.{◌≡◌, ◌-◌, ◌++◌, List, [], Bor, ℕ, take, vec_len, ◌∙◌, ap}
 use Rattle.plain_text.proofs.LastLine.{ended_lines-some, no_parts}
 use Rattle.plain_text.proofs.parts.ended_lines.Goals as goal
 

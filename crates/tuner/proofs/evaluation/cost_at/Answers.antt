@@ -1,4 +1,4 @@
-use Rattle.std.proofs.Common.{◌∙◌, sym, ap}
+use Rattle.std.proofs.Common.{ap}
 use Rattle.tuner.proofs.Costs.{cost_of-run}
 use Rattle.tuner.proofs.evaluation.cost_at.Goals as goal
 

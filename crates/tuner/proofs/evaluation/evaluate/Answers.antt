@@ -1,4 +1,4 @@
-use Rattle.std.proofs.Common.{◌≤◌, ℕ, suc, Some, arith, ap, add-one}
+use Rattle.std.proofs.Common.{◌≤◌, suc, Some, arith, ap, add-one}
 use Rattle.tuner.specs.Problem.{table_of}
 use Rattle.tuner.proofs.Costs.{total_cost-missing}
 use Rattle.tuner.proofs.evaluation.evaluate.Goals as goal

@@ -1,4 +1,4 @@
-use Rattle.std.proofs.Common.{◌∙◌, ap, sym}
+use Rattle.std.proofs.Common.{◌∙◌, ap}
 use Rattle.param_space.specs.Space.{defaults}
 use Rattle.tuner.proofs.RunsEnd.{run_finished, run_failed}
 use Rattle.tuner.proofs.finishing.run_default.Goals as goal

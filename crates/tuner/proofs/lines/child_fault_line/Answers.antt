@@ -1,7 +1,7 @@
-use Rattle.std.proofs.Common.{ℕ, ◌≡◌, List, [], ◌∷◌, ◌++◌, ◌∙◌, ap, append_assoc}
+use Rattle.std.proofs.Common.{ℕ, ◌≡◌, List, [], ◌++◌, ◌∙◌, ap, append_assoc}
 use Rattle.std.specs.Prelude.{codes}
 use Rattle.std.specs.Fmt.{decimal}
-use Rattle.tuner.specs.Lines.{child_fault_line, settings_of}
+use Rattle.tuner.specs.Lines.{settings_of}
 use Rattle.tuner.proofs.lines.child_fault_line.Goals as goal
 
 -- three pieces, one after another

@@ -1,5 +1,4 @@
 use Rattle.std.proofs.Common.{◌≡◌, take, map}
-use Rattle.outside.specs.declared.runs.Setting.{Setting}
 use Rattle.param_space.specs.Settings.{named_values}
 use Rattle.tuner.specs.Problem.{setting_from}
 use Rattle.tuner.proofs.problem.settings_of.Given as goal

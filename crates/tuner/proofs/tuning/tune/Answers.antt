@@ -1,4 +1,4 @@
-use Rattle.std.proofs.Common.{◌≡◌, true, refl, arith, length}
+use Rattle.std.proofs.Common.{◌≡◌, true, length}
 use Rattle.tuner.specs.Seats.{spawner_of}
 use Rattle.tuner.proofs.Endings.{ending_refused, ending_unseated, ending_ran, seats_tell, not_empty, empty, all_set_first}
 use Rattle.tuner.proofs.Promised.{cause_of, headline_of, complete_of}

@@ -1,6 +1,5 @@
 use Rattle.std.proofs.Common.{arith, refl}
-use Rattle.outside.specs.Meanings.{after_taking}
-use Rattle.tuner.proofs.Taking.{more_taken, more_taken_from, part_taken, refused_part, all_taken}
+use Rattle.tuner.proofs.Taking.{more_taken, more_taken_from, part_taken, refused_part}
 use Rattle.tuner.proofs.writing.write_whole.Goals as goal
 
 pub returns-in-Ok-eq0-clause-part : goal.returns-in-Ok-eq0-clause-part

@@ -1,4 +1,4 @@
-use Rattle.std.proofs.Common.{ℕ, ◌≡◌, List, [], ◌∷◌, ◌++◌, sym, ap, ◌∙◌, Some, None}
+use Rattle.std.proofs.Common.{[], ◌∷◌, ◌++◌, sym, ap, ◌∙◌, Some}
 use Rattle.std.specs.Prelude.{codes}
 use Rattle.plain_text.specs.Parts.{after_prefix}
 use Rattle.tuner.proofs.AllSome.{all_some_more, all_some_stops}

@@ -1,7 +1,6 @@
-use Rattle.std.proofs.Common.{ℕ, ◌≡◌, Bool, List, Some, None, Bor, sym, ap, ◌∙◌, refl}
+use Rattle.std.proofs.Common.{ℕ, ◌≡◌, List, Some, None, sym, ap, ◌∙◌}
 use Rattle.std.specs.Prelude.{position, bytes_eq}
 use Rattle.std.specs.Option.{option_map}
-use Rattle.param_space.specs.declared.lists.Param.{Param}
 use Rattle.tuner.specs.Reading.{RawParam, raw_param_of, values_of, param_of, numbered, ◌>>=◌}
 use Rattle.tuner.specs.Views.{raw_param_seen}
 use Rattle.tuner.proofs.reading.params.param_of.Goals as goal

@@ -1,4 +1,4 @@
-use Rattle.std.proofs.Common.{ℕ, ◌≡◌, List, [], ◌∷◌, ◌++◌, sym, ap, ◌∙◌, Some, None}
+use Rattle.std.proofs.Common.{sym, ap, ◌∙◌, Some}
 use Rattle.tuner.specs.Reading.{param_of}
 use Rattle.tuner.proofs.AllSome.{all_some_more, all_some_stops}
 use Rattle.tuner.proofs.reading.params.read_lines.Goals as goal
