@@ -1,5 +1,5 @@
 -- What the uncapped procedure has done so far, and how a step goes on or ends.
-use Rattle.std.specs.Prelude.{ℕ, List, Option, Some, None}
+use Rattle.std.specs.Prelude.{ℕ, ◌+◌, Bool, true, false, List, Option, Some, None}
 
 -- a configuration is the list of its value numbers
 abbrev pub Settings : Type 0
@@ -30,7 +30,9 @@ pub record Addition : Type 0 where
 pub record PlainState : Type 0 where
   pub counts : Settings → ℕ  -- the places of each configuration that count as run
   pub incumbent : Settings
+  pub bonus : ℕ  -- further runs that a win in FocusedILS is worth
   pub compared : ℕ  -- the comparisons begun
+  pub event : ℕ  -- the number of the next draw
   pub asks : List Question  -- the asks made, oldest first
   pub entries : List Addition  -- oldest first
 
@@ -63,13 +65,25 @@ p >> q = λ s. goes_on (p s) (λ _. q)
 abbrev pub give : {A : Type 0} → A → Procedure A
 give a = λ s. Goes s a
 
+-- the state as it is
+abbrev pub state : Procedure PlainState
+state = λ s. Goes s s
+
 abbrev pub becomes : (PlainState → PlainState) → Procedure (Unit {0})
 becomes f = λ s. Goes (f s) tt
 
 abbrev pub stop : {A : Type 0} → End → Procedure A
 stop e = λ s. Ends s e
 
+abbrev pub when : Bool → Procedure (Unit {0}) → Procedure (Unit {0})
+when true p = p
+when false p = give tt
+
 -- the number, or the end by an abort
 abbrev pub known : Option ℕ → Procedure ℕ
 known (Some x) = give x
 known None = stop Aborted
+
+-- a draw by the number of its event
+abbrev pub draw : {A : Type 0} → (ℕ → A) → Procedure A
+draw f = λ s. Goes (record s { event = s.event + 1 }) (f s.event)

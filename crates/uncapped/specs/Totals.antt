@@ -1,7 +1,9 @@
--- Total costs of configurations over the first places.
+-- Total costs of configurations over the first places, and aborts that count as unsolved.
 use Rattle.std.specs.Prelude.{ℕ, zero, suc, ◌+◌, List, Option, Some, None}
 use Rattle.objective.specs.Bounds.{Bounds}
 use Rattle.objective.specs.Costs.{Table, cost_of}
+use Rattle.objective.specs.declared.Outcome.{Outcome}
+use Rattle.objective.specs.declared.Outcome.TheVariants.{Solved, Unsolved, Crashed, Abort}
 
 -- the sum of two costs, where both are known
 abbrev pub plus : Option ℕ → Option ℕ → Option ℕ
@@ -13,3 +15,14 @@ plus None y = None
 abbrev pub total_cost : Bounds → Table → List ℕ → ℕ → Option ℕ
 total_cost limits T config zero = Some 0
 total_cost limits T config (suc n) = plus (total_cost limits T config n) (cost_of limits (T config (suc n)))
+
+-- an abort as unsolved
+abbrev pub quieted : Outcome → Outcome
+quieted (Solved t) = Solved t
+quieted Unsolved = Unsolved
+quieted (Crashed t) = Crashed t
+quieted (Abort t) = Unsolved
+
+-- the table in which each abort counts as unsolved
+abbrev pub quiet : Table → Table
+quiet T config place = quieted (T config place)

@@ -1,37 +1,17 @@
 -- The uncapped procedure: every evaluation is made in full, one run after another
--- (ParamILS framework, Hutter et al., JAIR 36). So far its budget allows no comparison.
-use Rattle.std.specs.Prelude.{ℕ, max, List, [], ◌∷◌, ◌++◌, Option, Some, None, length, bytes_eq, if◌then◌else◌}
-use Rattle.uncapped.specs.Procedure.{Settings, Sums, Question, Incumbent, Addition, PlainState, End, Finished, Step, Goes, Ends, Procedure, ◌>>=◌, ◌>>◌, give, becomes, stop, known}
+-- (ParamILS framework, Hutter et al., JAIR 36).
+use Rattle.std.specs.Prelude.{ℕ, suc, List, [], ◌∷◌, Option, Some, None}
+use Rattle.objective.specs.Bounds.{Bounds}
+use Rattle.objective.specs.Costs.{Table}
+use Rattle.uncapped.specs.Procedure.{Settings, Sums, Question, Incumbent, Addition, PlainState, End, Finished, Step, Goes, Ends, Procedure, ◌>>=◌, becomes}
+use Rattle.uncapped.specs.Setup.{Setup}
+use Rattle.uncapped.specs.Evaluation.{measure, after_entry, better_basic, better_focused}
+use Rattle.uncapped.specs.Searching.{search_after}
+use Rattle.uncapped.specs.Totals.{total_cost, quiet}
 
--- what the procedure knows beside the sums
-pub record Setup : Type 0 where
-  pub start : Settings  -- the default configuration
-  pub max_runs : ℕ  -- the places of a comparison
-
--- the count of a configuration becomes at least n
-abbrev pub counted : (Settings → ℕ) → Settings → ℕ → Settings → ℕ
-counted counts θ n φ = if bytes_eq φ θ then max (counts θ) n else counts φ
-
--- the state after one more ask
-abbrev pub after_ask : Settings → ℕ → Option ℕ → PlainState → PlainState
-after_ask θ n bound s = record s { asks = s.asks ++ record { config = θ; places = n; bound = bound } ∷ [] }
-
--- the state after one more entry
-abbrev pub after_entry : Settings → ℕ → ℕ → PlainState → PlainState
-after_entry θ n x s = record s {
-  entries = s.entries ++ record {
-    asks_before = length s.asks;
-    entry = record { compared = s.compared; runs = n; sum = x; config = θ };
-  } ∷ [];
-}
-
--- the total cost over n places is asked for, and the count rises
-unfoldable pub measure : Sums → Settings → ℕ → Option ℕ → Procedure ℕ
-measure sums θ n bound = do
-  becomes (after_ask θ n bound)
-  x ← known (sums θ n)
-  becomes (λ s. record s { counts = counted s.counts θ n })
-  give x
+pub data Approach : Type 0 where
+  Basic : Approach
+  Focused : Approach
 
 -- BasicILS evaluates the default first, and it is the first incumbent
 unfoldable pub opening_basic : Setup → Sums → Procedure (Unit {0})
@@ -39,11 +19,22 @@ opening_basic setup sums = do
   x ← measure sums setup.start setup.max_runs None
   becomes (after_entry setup.start setup.max_runs x)
 
+-- FocusedILS begins with the default, without a run
+unfoldable pub opening_focused : Setup → Procedure (Unit {0})
+opening_focused setup = becomes (after_entry setup.start 0 0)
+
+-- the procedure of an approach
+unfoldable pub procedure : Approach → Setup → Sums → Procedure (Unit {0})
+procedure Basic setup sums = search_after setup (better_basic setup sums) (opening_basic setup sums)
+procedure Focused setup sums = search_after setup (better_focused setup sums) (opening_focused setup)
+
 abbrev pub at_first : Setup → PlainState
 at_first setup = record {
   counts = λ _. 0;
   incumbent = setup.start;
+  bonus = 0;
   compared = 0;
+  event = 0;
   asks = [];
   entries = [];
 }
@@ -76,6 +67,10 @@ abbrev pub run_after : {A : Type 0} → Sums → Step A → Run
 run_after sums (Goes s _) = run_of sums s Finished
 run_after sums (Ends s e) = run_of sums s e
 
--- the opening evaluation; the search then ends before its first comparison
-unfoldable pub uncapped : Setup → Sums → Run
-uncapped setup sums = run_after sums ((opening_basic setup sums >> stop {A = Unit {0}} Finished) (at_first setup))
+-- the run of an approach over these sums
+unfoldable pub uncapped : Approach → Setup → Sums → Run
+uncapped approach setup sums = run_after sums (procedure approach setup sums (at_first setup))
+
+-- the asks over an outcome table in which each abort counts as unsolved
+abbrev pub asks_of : Approach → Setup → Bounds → Table → List Question
+asks_of approach setup limits T = (uncapped approach setup (total_cost limits (quiet T))).asks
