@@ -8,6 +8,11 @@ use Rattle.uncapped.specs.Setup.{Setup}
 abbrev pub after_begin : PlainState → PlainState
 after_begin s = record s { compared = s.compared + 1 }
 
+-- a configuration that was drawn, or else this one
+abbrev pub or_stay : Settings → Option Settings → Settings
+or_stay θ None = θ
+or_stay θ (Some φ) = φ
+
 module _ (setup : Setup) (better : Settings → Settings → Procedure Bool) where
   -- a comparison, or the end where the budget is used up
   unfoldable pub compare : Settings → Settings → Procedure Bool
@@ -45,11 +50,6 @@ module _ (setup : Setup) (better : Settings → Settings → Procedure Bool) whe
     θ ← draw setup.random
     won ← compare θ current
     try_random more (if won then θ else current)
-
-  -- a configuration that was drawn, or else this one
-  abbrev pub or_stay : Settings → Option Settings → Settings
-  or_stay θ None = θ
-  or_stay θ (Some φ) = φ
 
   -- so many random steps to neighbours
   unfoldable pub perturb : ℕ → Settings → Procedure Settings

@@ -1,0 +1,4 @@
+pub mod Rules
+pub mod Replies
+pub mod Setups
+pub mod Shown

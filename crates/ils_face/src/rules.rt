@@ -1,0 +1,58 @@
+//! The rules of a search.
+ghost use Rattle.std.specs.Prelude.{◌≡◌, IfOk};
+
+use objective::{Limits, Memory};
+use param_space::Space;
+use std::marker::Model;
+
+/// What a search goes by. Its type keeps each number within its limits.
+#[derive(Drop)]
+pub struct Rules {
+    /// The parameter space.
+    pub space: Space,
+    /// The seed of all draws.
+    pub seed: u32,
+    /// The pairs of a comparison, at most: 1 to 10,000.
+    pub max_runs: u32,
+    /// The comparisons of a tuning: 0 to 100,000.
+    pub budget: u32,
+    /// The random configurations that the default is compared with at first: 0 to 1,000.
+    pub initial: u32,
+    /// The random steps of a perturbation: 1 to 100.
+    pub strength: u32,
+    /// How often the search restarts, in ten-thousandths: 0 to 10,000.
+    pub restart: u16,
+    /// What bounds and prices a run.
+    pub limits: Limits,
+    /// The seats that work on a tuning: 1 to 64.
+    pub workers: u32,
+}
+
+impl Model for Rules {
+    ghost use Rattle.ils_face.specs.Rules as rules;
+
+    ghost Value = { rules.Rules };
+
+    ghost view = { λ r. record { space = r.space; seed = r.seed; max_runs = r.max_runs; budget = r.budget; initial = r.initial; strength = r.strength; restart = r.restart; limits = r.limits; workers = r.workers } };
+
+    ghost invariant = { λ r. rules.AreRules (record { space = r.space; seed = r.seed; max_runs = r.max_runs; budget = r.budget; initial = r.initial; strength = r.strength; restart = r.restart; limits = r.limits; workers = r.workers }) };
+}
+
+impl Rules {
+    /// The same rules.
+    pub fn copy(&self, alloc: std::alloc::Global) -> Result<Rules, Memory>
+        ensures { IfOk result (λ r. r ≡ self.now) }
+    {
+        Ok(Rules {
+            space: self.space.copy(alloc)?,
+            seed: self.seed,
+            max_runs: self.max_runs,
+            budget: self.budget,
+            initial: self.initial,
+            strength: self.strength,
+            restart: self.restart,
+            limits: self.limits,
+            workers: self.workers,
+        })
+    }
+}

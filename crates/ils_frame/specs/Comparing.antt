@@ -1,0 +1,151 @@
+-- What every comparer promises a search, whatever its state.
+use Rattle.std.specs.Prelude.{ℕ, ◌≡◌, ◌+◌, ◌*◌, ◌<◌, ◌≤◌, ◌⊎◌, Bool, true, false, All, List, [], ◌∷◌, ◌++◌, map, length, Option, Some, None}
+use Rattle.uncapped.specs.Procedure.{Settings, Sums, Question, Incumbent, Addition, PlainState, Aborted, Goes, Ends, Procedure, ◌>>=◌, give}
+use Rattle.uncapped.specs.Setup.{Setup}
+use Rattle.uncapped.specs.Evaluation.{after_ask}
+use Rattle.uncapped.specs.Uncapped.{at_first, or_nothing}
+use Rattle.ils_face.specs.declared.asks.Reply.{Reply}
+use Rattle.ils_face.specs.declared.asks.Reply.TheVariants.{Exact}
+use Rattle.ils_face.specs.Replies.{Fits, asking, up_to, cost_asked}
+use Rattle.ils_frame.specs.declared.pending.Stage.{Stage}
+use Rattle.ils_frame.specs.declared.pending.Stage.TheVariants as stage
+
+-- how far a comparer is, with its question
+pub data Phase : Type 0 where
+  Ready : Phase  -- nothing was compared yet
+  Asking : Question → Phase
+  Decided : Bool → Phase
+
+-- the phase without its question
+abbrev pub stage_of : Phase → Stage
+stage_of Ready = stage.Ready
+stage_of (Asking q) = stage.Asking
+stage_of (Decided b) = stage.Decided b
+
+-- the open question, where there is one
+abbrev pub question_in : Phase → Option Question
+question_in Ready = None
+question_in (Asking q) = Some q
+question_in (Decided b) = None
+
+-- what it came to, where nothing is asked
+abbrev pub decision_in : Phase → Option Bool
+decision_in Ready = Some false
+decision_in (Asking q) = None
+decision_in (Decided b) = Some b
+
+-- how a comparer of states S goes on, what it shows, and how the procedure's state goes on with it
+pub record Parts (S : Type 0) : Type 0 where
+  pub phase : S → Phase
+  pub last : S → Incumbent  -- the incumbent with its runs and their cost, and the comparison's number
+  pub entries : S → List Incumbent
+  pub after : S → Reply → S
+  pub begun : S → Settings → Settings → ℕ → S  -- a comparison with this number begins
+  pub added : S → Reply → List Incumbent  -- the entries that a reply adds
+  pub left : S → ℕ  -- answers until nothing is asked, at most
+  pub replied : S → Reply → PlainState → PlainState
+  pub started : S → Settings → Settings → ℕ → PlainState → PlainState
+
+-- ---- whatever fitting replies come
+
+-- the incumbent, its runs and their cost stay
+pub record SameIncumbent (a b : Incumbent) : Type 0 where
+  pub config : b.config ≡ a.config
+  pub runs : b.runs ≡ a.runs
+  pub sum : b.sum ≡ a.sum
+
+-- the configuration of the question is the incumbent, by this reply
+pub record NewIncumbent (q : Question) (r : Reply) (b : Incumbent) : Type 0 where
+  pub config : b.config ≡ q.config
+  pub runs : b.runs ≡ q.places
+  pub cost : r ≡ Exact (record { 0 = b.sum })
+
+-- what one fitting reply does
+pub record Answered {S : Type 0} (parts : Parts S) (fit : S → Type 0) (c : S) (q : Question) (r : Reply) : Type 0 where
+  pub stays_fit : fit (parts.after c r)
+  pub nearer : parts.left (parts.after c r) < parts.left c
+  pub grown : parts.entries (parts.after c r) ≡ parts.entries c ++ parts.added c r
+  pub compared : (parts.last (parts.after c r)).compared ≡ (parts.last c).compared
+  pub incumbent : SameIncumbent (parts.last c) (parts.last (parts.after c r)) ⊎ NewIncumbent q r (parts.last (parts.after c r))
+
+-- what the begin of a comparison does
+pub record Begun {S : Type 0} (parts : Parts S) (fit : S → Type 0) (max_runs : ℕ) (c d : S) (m : ℕ) : Type 0 where
+  pub stays_fit : fit d
+  pub few : parts.left d ≤ 8 * max_runs + 16
+  pub asks_first : decision_in (parts.phase d) ≡ None
+  pub same_entries : parts.entries d ≡ parts.entries c
+  pub compared : (parts.last d).compared ≡ m
+  pub incumbent : SameIncumbent (parts.last c) (parts.last d)
+
+-- a question names an allowed configuration and a number of places
+pub record InRange (max_runs : ℕ) (allowed : Settings → Type 0) (q : Question) : Type 0 where
+  pub config : allowed q.config
+  pub some : 1 ≤ q.places
+  pub within : q.places ≤ max_runs
+
+-- what a comparer promises whatever fitting replies come
+pub record IsSteady {S : Type 0} (parts : Parts S) (fit : S → Type 0) (max_runs : ℕ) (allowed : Settings → Type 0) (start : Settings) (first : S) : Type 0 where
+  pub opened : fit first
+  pub few : parts.left first ≤ 8 * max_runs + 16
+  pub nothing_yet : parts.last first ≡ record { compared = 0; runs = 0; sum = 0; config = start }
+  pub in_range : (c : S) (q : Question) → fit c → parts.phase c ≡ Asking q → InRange max_runs allowed q
+  pub incumbents : (c : S) → fit c → allowed (parts.last c).config
+  pub all_entries : (c : S) → fit c → All (λ e. allowed e.config) (parts.entries c)
+  pub ready_first : (c : S) → fit c → parts.phase c ≡ Ready → (parts.last c).compared ≡ 0
+  pub decided_later : (c : S) (b : Bool) → fit c → parts.phase c ≡ Decided b → 1 ≤ (parts.last c).compared
+  pub answered : (c : S) (q : Question) (r : Reply) → fit c → parts.phase c ≡ Asking q → Fits (asking q.config q.places q.bound) r → Answered parts fit c q r
+  pub begins : (c : S) (θ φ : Settings) (m : ℕ) → fit c → question_in (parts.phase c) ≡ None → 1 ≤ m → allowed θ → allowed φ → Begun parts fit max_runs c (parts.begun c θ φ m) m
+
+-- ---- with the replies of total costs
+
+-- entries that are added by the reply to the ask of this number, from 1
+abbrev pub numbered : ℕ → List Incumbent → List Addition
+numbered n new = map (λ e. record { asks_before = n; entry = e }) new
+
+-- the procedure's state after an answer: one more ask, and the entries that it adds
+pub record Advanced (s t : PlainState) (q : Question) (added : List Incumbent) : Type 0 where
+  pub asks : t.asks ≡ s.asks ++ q ∷ []
+  pub entries : t.entries ≡ s.entries ++ numbered (length s.asks + 1) added
+  pub event : t.event ≡ s.event
+
+-- the procedure's state after a begin: nothing was asked, drawn or added
+pub record Unasked (s t : PlainState) : Type 0 where
+  pub asks : t.asks ≡ s.asks
+  pub entries : t.entries ≡ s.entries
+  pub event : t.event ≡ s.event
+
+-- the incumbent of the procedure's state
+abbrev pub last_of : Sums → PlainState → Incumbent
+last_of sums s = record {
+  compared = s.compared;
+  runs = s.counts s.incumbent;
+  sum = or_nothing (sums s.incumbent (s.counts s.incumbent));
+  config = s.incumbent;
+}
+
+-- with a known cost, what is to come stays the same
+pub record GoesOn {S : Type 0} (parts : Parts S) (stands : S → PlainState → Type 0) (coming : S → Procedure Bool) (c : S) (s : PlainState) (q : Question) (r : Reply) : Type 0 where
+  pub stays : stands (parts.after c r) (parts.replied c r s)
+  pub same : coming c s ≡ coming (parts.after c r) (parts.replied c r s)
+  pub advanced : Advanced s (parts.replied c r s) q (parts.added c r)
+
+-- what is to come of a new comparison is the comparison
+pub record Starts {S : Type 0} (parts : Parts S) (stands : S → PlainState → Type 0) (coming : S → Procedure Bool) (better : Settings → Settings → Procedure Bool) (c : S) (θ φ : Settings) (m : ℕ) (s : PlainState) : Type 0 where
+  pub stays : stands (parts.begun c θ φ m) (parts.started c θ φ m s)
+  pub same : better θ φ (record s { compared = m }) ≡ coming (parts.begun c θ φ m) (parts.started c θ φ m s)
+  pub unasked : Unasked s (parts.started c θ φ m s)
+
+-- the state that the comparer stands for before anything is answered
+abbrev pub opened_state : {S : Type 0} → Parts S → Setup → S → PlainState
+opened_state parts setup first = record (at_first setup) { entries = numbered 0 (parts.entries first) }
+
+-- what a comparer promises with the replies of total costs: it does what the procedure does
+pub record Keeps {S : Type 0} (parts : Parts S) (fit : S → Type 0) (stands : S → PlainState → Type 0) (coming : S → Procedure Bool) (better : Settings → Settings → Procedure Bool) (opening : Procedure (Unit {0})) (setup : Setup) (sums : Sums) (first : S) : Type 0 where
+  pub opened : stands first (opened_state parts setup first)
+  pub opens : coming first (opened_state parts setup first) ≡ (opening >>= λ _. give false) (at_first setup)
+  pub redrawn : (c : S) (s : PlainState) (e : ℕ) → stands c s → stands c (record s { event = e })
+  pub answered : (c : S) (s : PlainState) (q : Question) (x : ℕ) → fit c → stands c s → parts.phase c ≡ Asking q → cost_asked sums q ≡ Some x → GoesOn parts stands coming c s q (up_to x q.bound)
+  pub aborts : (c : S) (s : PlainState) (q : Question) → fit c → stands c s → parts.phase c ≡ Asking q → cost_asked sums q ≡ None → coming c s ≡ Ends (after_ask q.config q.places q.bound s) Aborted
+  pub begins : (c : S) (s : PlainState) (θ φ : Settings) (m : ℕ) → fit c → stands c s → question_in (parts.phase c) ≡ None → Starts parts stands coming better c θ φ m s
+  pub ended : (c : S) (s : PlainState) (b : Bool) → decision_in (parts.phase c) ≡ Some b → coming c s ≡ Goes s b
+  pub last : (c : S) (s : PlainState) → fit c → stands c s → parts.last c ≡ last_of sums s

@@ -1,0 +1,104 @@
+//! What every comparer promises.
+ghost use Rattle.std.specs.Prelude.{◌≡◌, ◌≤◌, List, Bool, true, None, IfOk, OnOk, OnErr, IsSome};
+ghost use Rattle.objective.specs.Costs.{Table};
+ghost use Rattle.param_space.specs.Configurations.{IsConfig};
+ghost use Rattle.param_space.specs.Space.{defaults};
+ghost use Rattle.uncapped.specs.Procedure.{Settings, Sums, PlainState, Procedure};
+ghost use Rattle.uncapped.specs.Setup.{Setup};
+ghost use Rattle.ils_face.specs.Replies.{Fits, ask_for};
+ghost use Rattle.ils_face.specs.Rules.{AreRules};
+ghost use Rattle.ils_face.specs.Shown.{sums_under};
+ghost use Rattle.ils_face.specs.Setups.{setup_of};
+ghost use Rattle.ils_face.specs.declared.rules.Rules.{Rules};
+ghost use Rattle.ils_frame.specs.Comparing.{Parts, IsSteady, Keeps, stage_of, question_in, decision_in};
+
+use crate::pending::Stage;
+use ils_face::{Ask, Entry, Reply, Rules};
+use objective::{Memory, Sum};
+use param_space::Config;
+use std::alloc::Global;
+
+/// Compares configurations by asking for total costs. Contracts see it as a state, and what
+/// it shows is a function of that state.
+pub trait Comparer: Sized + Drop {
+    /// How it goes on, and what it shows.
+    ghost parts: { Parts Self };
+
+    /// The comparer of these rules before any reply.
+    ghost at_open: { Rules → Self };
+
+    /// It was reached by fitting replies.
+    ghost fit: { Rules → Self → Type 0 };
+
+    /// It was reached by the replies of these total costs, and stands for this state of the
+    /// procedure.
+    ghost stands: { Rules → Sums → Self → PlainState → Type 0 };
+
+    /// The opening evaluation of the procedure.
+    ghost opening: { Setup → Sums → Procedure (Unit {0}) };
+
+    /// The comparison of the procedure.
+    ghost better: { Setup → Sums → Settings → Settings → Procedure Bool };
+
+    /// What is to come of the opening evaluation or of the comparison.
+    ghost coming: { Setup → Sums → Self → Procedure Bool };
+
+    /// A comparer with its opening evaluation to make, where it has one.
+    fn open(alloc: Global, rules: &Rules) -> Result<Self, Memory>
+        ensures { IfOk result (λ c. c ≡ at_open rules.now) };
+
+    /// How far it is. Takes no memory, as all the calls that only read.
+    fn stage(&self) -> Stage
+        ensures { result ≡ stage_of (parts.phase self.now) };
+
+    /// The open ask.
+    fn ask(&self) -> &Ask
+        requires { IsSome (question_in (parts.phase self.now)) }
+        ensures { result.now ≡ ask_for (question_in (parts.phase self.now)) };
+
+    /// What the comparison comes to by this reply, or nothing where an ask follows.
+    fn decided_by(&self, reply: Reply) -> Option<bool>
+        requires { Fits (ask_for (question_in (parts.phase self.now))) reply }
+        ensures { result ≡ decision_in (parts.phase (parts.after self.now reply)) };
+
+    /// Takes the reply to the open ask. Where there is no memory left, all is as it was.
+    fn answer(&mut self, reply: Reply) -> Result<(), Memory>
+        requires { Fits (ask_for (question_in (parts.phase self.old))) reply }
+        ensures ok { OnOk result (self.new ≡ parts.after self.old reply) }
+        ensures err { OnErr result (self.new ≡ self.old) };
+
+    /// Begins a comparison, of this number from 1. Takes no memory.
+    fn begin(&mut self, first: Config, second: Config, compared: u32)
+        requires { question_in (parts.phase self.old) ≡ None }
+        ensures { self.new ≡ parts.begun self.old first second compared };
+
+    /// The same comparer.
+    fn copy(&self) -> Result<Self, Memory>
+        ensures { IfOk result (λ c. c ≡ self.now) };
+
+    /// The number of the present comparison, 0 before the first.
+    fn compared(&self) -> u32
+        ensures { result ≡ (parts.last self.now).compared };
+
+    /// The incumbents so far, oldest first.
+    fn entries(&self) -> &[Entry]
+        ensures { result.now ≡ parts.entries self.now };
+
+    /// The present incumbent.
+    fn incumbent(&self) -> &Config
+        ensures { result.now ≡ (parts.last self.now).config };
+
+    /// The number of its runs.
+    fn incumbent_runs(&self) -> u32
+        ensures { result ≡ (parts.last self.now).runs };
+
+    /// The total cost of its runs.
+    fn incumbent_sum(&self) -> Sum
+        ensures { result.0 ≡ (parts.last self.now).sum };
+
+    /// What holds whatever fitting replies come.
+    ghost steady: { (rules : Rules) → AreRules rules → IsSteady parts (fit rules) rules.max_runs (IsConfig rules.space) (defaults rules.space.params) (at_open rules) };
+
+    /// With the replies of a table it does what the procedure does.
+    ghost keeps: { (rules : Rules) (T : Table) → AreRules rules → Keeps parts (fit rules) (stands rules (sums_under rules T)) (coming (setup_of rules) (sums_under rules T)) (better (setup_of rules) (sums_under rules T)) (opening (setup_of rules) (sums_under rules T)) (setup_of rules) (sums_under rules T) (at_open rules) };
+}

@@ -1,0 +1,8 @@
+//! Iterated local search (ParamILS framework, Hutter et al., JAIR 36) over any comparison.
+#![tactic(auto)]
+
+mod comparer;
+mod pending;
+
+pub use comparer::Comparer;
+pub use pending::Stage;

@@ -1,0 +1,83 @@
+//! What the present comparison is for.
+ghost use Rattle.std.specs.Prelude.{◌≡◌, ◌∷◌, []};
+
+use param_space::Config;
+use std::collections::VecDeque;
+use std::marker::Model;
+
+/// How far a comparer is.
+#[derive(Clone, Copy, Debug, PartialEq, Eq)]
+pub enum Stage {
+    /// Nothing was compared yet, and nothing is asked.
+    Ready,
+    /// An ask is open.
+    Asking,
+    /// The comparison came to this.
+    Decided(bool),
+}
+
+/// Configurations that are taken from the front.
+#[derive(Drop)]
+pub(crate) struct Neighbours {
+    configs: VecDeque<Config>,
+}
+
+impl Model for Neighbours {
+    ghost use Rattle.std.specs.Prelude.{List, ℕ};
+
+    ghost Value = { List (List ℕ) };
+
+    ghost view = { λ n. n.configs.items };
+}
+
+/// What follows an improvement.
+#[derive(Drop)]
+pub(crate) enum After {
+    /// The first turn of the outer search.
+    First,
+    /// The comparison of what was found with the best so far.
+    Turn {
+        /// The turns that are left.
+        more: u32,
+        /// The best so far.
+        ils: Config,
+    },
+}
+
+/// What the present comparison is for.
+#[derive(Drop)]
+pub(crate) enum Pending {
+    /// The opening evaluation.
+    Opening,
+    /// A random configuration is tried in place of the current one.
+    Trying {
+        /// The random configurations that are left.
+        more: u32,
+        /// The random one.
+        challenger: Config,
+        /// The current one.
+        current: Config,
+    },
+    /// A neighbour is tried in an improvement.
+    Improving {
+        /// What follows the improvement.
+        after: After,
+        /// The comparisons that are left for it.
+        left: u32,
+        /// The current configuration.
+        current: Config,
+        /// Its neighbour.
+        neighbour: Config,
+        /// The neighbours that weren't tried yet.
+        rest: Neighbours,
+    },
+    /// What an improvement found is compared with the best so far.
+    Returning {
+        /// The turns that are left.
+        more: u32,
+        /// What was found.
+        found: Config,
+        /// The best so far.
+        ils: Config,
+    },
+}
