@@ -1,0 +1,4 @@
+pub mod Draws
+pub mod Streams
+pub mod Orders
+pub mod Example
