@@ -1,8 +1,11 @@
 -- Draws of a tuning: each is a function of the seed and of a stream's number.
-use Rattle.std.specs.Prelude.{ℕ, ◌%◌, Bool, ◌&&◌, ◌||◌, ◌==◌, nat_lt, List, [], ◌∷◌, map, if◌then◌else◌}
+use Rattle.std.specs.Prelude.{ℕ, zero, suc, ◌+◌, ◌*◌, ◌%◌, Bool, true, false, ◌&&◌, ◌||◌, ◌==◌, nat_lt, List, [], ◌∷◌, length, map, if◌then◌else◌}
 use Rattle.std.specs.List.{range_with_len}
 use Rattle.rand_pcg.specs.Lcg.{Lcg, advance, started, increment_of}
 use Rattle.rand_pcg.specs.Pcg.{multiplier_64, pcg32}
+use Rattle.param_space.specs.declared.lists.Param.{Param}
+use Rattle.param_space.specs.Space.{Lists, defaults}
+use Rattle.param_space.specs.Configurations.{settled, is_allowed}
 
 -- the generator of a stream after so many words
 unfoldable pub generator_at : ℕ → ℕ → ℕ → Lcg
@@ -41,3 +44,24 @@ one_of seed stream n = word_of seed stream 0 % n
 -- true in so many of 10,000 cases
 abbrev pub coin_of : ℕ → ℕ → ℕ → Bool
 coin_of seed stream per_ten_thousand = nat_lt (word_of seed stream 0 % 10000) per_ten_thousand
+
+-- a value number for each parameter: the words from word k on, each modulo the number of values
+abbrev pub values_of : ℕ → ℕ → ℕ → List Param → List ℕ
+values_of seed stream k [] = []
+values_of seed stream k (p ∷ later) = word_of seed stream k % length p.values ∷ values_of seed stream (k + 1) later
+
+-- the configuration of an attempt, from 0: its words follow those of the attempts before it
+unfoldable pub attempt_of : ℕ → ℕ → Lists → ℕ → List ℕ
+attempt_of seed stream lists a = settled lists (values_of seed stream (a * length lists.params) lists.params)
+
+-- the first allowed one of so many attempts from an attempt on; where none is allowed, the defaults
+unfoldable pub first_allowed : ℕ → ℕ → Lists → ℕ → ℕ → List ℕ
+first_allowed seed stream lists zero a = defaults lists.params
+first_allowed seed stream lists (suc left) a = elim (is_allowed lists (attempt_of seed stream lists a)) [
+  | true ↦ attempt_of seed stream lists a
+  | false ↦ first_allowed seed stream lists left (a + 1)
+]
+
+-- a configuration drawn at random, in at most 1,000 attempts
+unfoldable pub random_config_of : ℕ → ℕ → Lists → List ℕ
+random_config_of seed stream lists = first_allowed seed stream lists 1000 0

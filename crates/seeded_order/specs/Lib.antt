@@ -1,4 +1,5 @@
 pub mod Draws
 pub mod Streams
 pub mod Orders
+pub mod Values
 pub mod Example
