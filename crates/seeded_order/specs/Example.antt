@@ -1,5 +1,5 @@
 -- The streams of the seed 42, worked.
-use Rattle.std.specs.Prelude.{ℕ, ◌≡◌, List, [], ◌∷◌, true, false, map, codes, refl}
+use Rattle.std.specs.Prelude.{◌≡◌, [], ◌∷◌, true, false, map, codes, refl}
 use Rattle.rand_pcg.specs.Lcg.{state_after}
 use Rattle.param_space.specs.declared.lists.Param.{Param}
 use Rattle.param_space.specs.Configurations.{is_active_within}

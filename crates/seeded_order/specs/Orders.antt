@@ -1,13 +1,12 @@
 -- Sorted pairs: there is one order, and it is of the same pairs.
-use Rattle.std.proofs.Common.{ℕ, zero, suc, ◌≡◌, ◌+◌, ◌<◌, Bool, true, false, cond, ◌&&◌, ◌||◌, ◌==◌, List, [], ◌∷◌, ◌++◌, length, map, refl, sym, ap, subst, ◌∙◌, arith, add-one}
-use Rattle.std.specs.Prelude.{nat_lt}
+use Rattle.std.proofs.Common.{ℕ, zero, suc, ◌≡◌, ◌+◌, ◌<◌, Bool, true, false, cond, List, [], ◌∷◌, ◌++◌, length, map, refl, sym, ap, subst, ◌∙◌, arith}
 use Rattle.std.specs.List.{All, AllByRecursion, sum_by, range_with_len, slice_index_or}
-use Rattle.std.specs.List.Sorted.{IsPermutation, IsSorted, IsSortedBy}
+use Rattle.std.specs.List.Sorted.{IsPermutation, IsSorted}
 use Rattle.std.specs.declared.cmp.Ordering.{Ordering}
 use Rattle.std.specs.Ordering.{nat_cmp, ordering_then, is_lt}
-use Rattle.std.specs.Cmp.{IsStrictWeakOrder, IsTotalOrder, then_total, on_total, nat_cmp_total}
+use Rattle.std.specs.Cmp.{IsStrictWeakOrder, then_total, on_total, nat_cmp_total}
 use Rattle.std.proofs.lemmas.Bool.Decides.{nat_tests}
-use Rattle.std.proofs.lemmas.List.Elements.{All-map, All-from_get_or, recursion_from_All}
+use Rattle.std.proofs.lemmas.List.Elements.{All-from_get_or, recursion_from_All}
 use Rattle.std.proofs.lemmas.List.FromFn.{length-range_with_len, map-range_with_len_more, get_or-range_with_len}
 use Rattle.std.proofs.lemmas.List.Sorted.{IsPermutation-refl, IsPermutation-cons, IsPermutation-trans, IsPermutation-swap, IsPermutation-map, length_permutation, All-permutation, sum_by-IsPermutation, ranks_by, sorted_far}
 use Rattle.std.proofs.lemmas.List.Sums.{sum_by-cons}
@@ -142,8 +141,8 @@ sorted_by_pairs [] h = tt
 sorted_by_pairs (p ∷ later) h =
     let far : All (λ q. stands_before q p ≡ false) later = λ k d lt. sym (compared_less (slice_index_or later k d) p) ∙ sorted_far (λ q r. is_lt (compared q r)) compared_weak (p ∷ later) h 0 (suc k) d (omega arith) (omega arith) in
     let rest : IsSorted compared later = λ k d low high.
-        (let next : suc k + 1 ≡ suc (k + 1) = omega arith in
-        subst (λ n. is_lt (compared (slice_index_or (p ∷ later) n d) (slice_index_or later k d)) ≡ false) next (h (suc k) d (omega arith) (omega arith))) in
+    (let next : suc k + 1 ≡ suc (k + 1) = omega arith in
+    subst (λ n. is_lt (compared (slice_index_or (p ∷ later) n d) (slice_index_or later k d)) ≡ false) next (h (suc k) d (omega arith) (omega arith))) in
     (recursion_from_All (λ q. stands_before q p ≡ false) later far, sorted_by_pairs later rest)
 
 -- a sort of pairs gives the one order
@@ -152,10 +151,12 @@ sort_is ps qs moved up =
     one_order qs (sorted ps) (sorted_by_pairs qs up) (sorted_ascends ps) (λ f. sum_by-IsPermutation f ps (sorted ps) (sorted_permutes ps) ∙ sym (sum_by-IsPermutation f ps qs moved))
 
 -- one number more with its word
-pub more_numbered : (seed stream n : ℕ) → numbered_words seed stream (n + 1) ≡ numbered_words seed stream n ++ (word_of seed stream n, n) ∷ []
-more_numbered seed stream n =
+pub more_paired : (seed stream n word : ℕ) (pairs : List (ℕ × ℕ)) → word ≡ word_of seed stream n → pairs ≡ numbered_words seed stream n → pairs ++ (word, n) ∷ [] ≡ numbered_words seed stream (n + 1)
+more_paired seed stream n word pairs e paired =
     let numbered : ℕ → ℕ × ℕ = λ k. (word_of seed stream k, k) in
-    map-range_with_len_more numbered 0 n n (omega arith)
+    ap (λ ps. ps ++ (word, n) ∷ []) paired
+    ∙ ap (λ w. numbered_words seed stream n ++ (w, n) ∷ []) e
+    ∙ sym (map-range_with_len_more numbered 0 n n (omega arith))
 
 -- the numbers that the words stand beside
 numbers_of : (seed stream a n : ℕ) → map (λ (p : ℕ × ℕ). p.1) (map (λ k. (word_of seed stream k, k)) (range_with_len a n)) ≡ range_with_len a n

@@ -1,5 +1,5 @@
 -- A stream's generator, word after word.
-use Rattle.std.proofs.Common.{ℕ, zero, suc, ◌≡◌, ◌+◌, ◌^◌, ◌<◌, refl, sym, ap, ◌∙◌, arith, add-one}
+use Rattle.std.proofs.Common.{ℕ, zero, suc, ◌≡◌, ◌+◌, refl, sym, ap, ◌∙◌, add-one}
 use Rattle.rand_pcg.specs.Lcg.{Lcg, next_state, state_after, next, advance, started, increment_of}
 use Rattle.rand_pcg.specs.Pcg.{multiplier_64, pcg32}
 use Rattle.seeded_order.specs.Draws.{generator_at, word_of}
@@ -24,6 +24,12 @@ next_generator seed stream k =
     ap (λ s. record start { state = s }) (sym (step_later 64 multiplier_64 start.increment k start.state))
     ∙ ap (λ n. advance 64 multiplier_64 n start) (sym (add-one k)) in
     ap (λ g. ((pcg32 (advance 64 multiplier_64 k start)).0, g)) later
+
+-- the same of a call that takes the next word
+pub next_word_is : (seed stream k word : ℕ) (before after : Lcg) → (word, after) ≡ pcg32 before → before ≡ generator_at seed stream k → (word ≡ word_of seed stream k) × (after ≡ generator_at seed stream (k + 1))
+next_word_is seed stream k word before after taken at =
+    let step = taken ∙ ap pcg32 at ∙ next_generator seed stream k in
+    (ap (λ p. p.0) step, ap (λ p. p.1) step)
 
 -- after k steps at once comes word k
 pub later_word : (seed stream k : ℕ) → (pcg32 (advance 64 multiplier_64 k (generator_at seed stream 0))).0 ≡ word_of seed stream k

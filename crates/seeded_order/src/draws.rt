@@ -1,12 +1,18 @@
 //! Draws.
 ghost use Rattle.std.specs.Prelude.{ℕ, ◌≡◌, ◌<◌, ◌≤◌, ◌^◌, IfOk};
-ghost use Rattle.seeded_order.specs.Draws.{generator_at, word_of, order_of, one_of as one_number_of, coin_of};
+ghost use Rattle.seeded_order.specs.Draws.{generator_at, word_of, order_of, one_of as one_number_of, coin_of, random_config_of};
+ghost use Rattle.param_space.specs.Configurations.{IsConfig};
 
+use crate::values::drawn_config;
 use objective::Memory;
+use param_space::{Config, Space};
 use rand_core::utils::NextWord;
 use rand_pcg::Pcg32;
 use std::alloc::Global;
 use std::marker::Model;
+
+/// How many configurations are drawn before the default is taken.
+const ATTEMPTS: u32 = 1000;
 
 /// The draws of a seed. Contracts see it as the seed.
 #[derive(Clone, Copy, Debug)]
@@ -80,5 +86,25 @@ impl Draws {
         ensures { result ≡ coin_of self.now stream per_ten_thousand }
     {
         self.word(stream, 0) % 10_000 < u32::from(per_ten_thousand)
+    }
+
+    /// A configuration of the space. In each of up to 1,000 attempts each parameter gets
+    /// the stream's next word modulo the number of its values, and the result is settled;
+    /// the first one that is allowed is the answer. Where none is, it is the default.
+    pub fn random_config(&self, alloc: Global, stream: u64, space: &Space) -> Result<Config, Memory>
+        requires { stream < 2 ^ 62 }
+        ensures value { IfOk result (λ c. c ≡ random_config_of self.now stream space.now) }
+        ensures sound { IfOk result (λ c. IsConfig space.now c) }
+    {
+        let params = space.params();
+        let mut generator = self.generator(stream);
+        for _attempt in 0..ATTEMPTS {
+            let mut config = drawn_config(alloc, &mut generator, params)?;
+            space.settle(&mut config);
+            if space.is_allowed(&config) {
+                return Ok(config);
+            }
+        }
+        space.default_config()
     }
 }

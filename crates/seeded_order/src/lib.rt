@@ -5,5 +5,9 @@
 #![tactic(auto)]
 
 mod draws;
+mod values;
 
 pub use draws::Draws;
+
+#[cfg(test)]
+mod tests;

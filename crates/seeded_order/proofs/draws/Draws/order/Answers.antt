@@ -1,19 +1,15 @@
-use Rattle.std.proofs.Common.{rules, ℕ, ◌≡◌, ◌+◌, ◌∙◌, List, ◌∷◌, [], ◌++◌, map, refl, sym, ap, arith, subst}
-use Rattle.rand_pcg.specs.Pcg.{pcg32}
-use Rattle.seeded_order.specs.Draws.{word_of, generator_at, numbered_words}
-use Rattle.seeded_order.specs.Streams.{next_generator}
-use Rattle.seeded_order.specs.Orders.{sorted_numbers, more_numbered}
+use Rattle.std.proofs.Common.{rules, ◌≡◌, ◌∙◌, map, ap, arith}
+use Rattle.seeded_order.specs.Draws.{numbered_words}
+use Rattle.seeded_order.specs.Streams.{next_word_is}
+use Rattle.seeded_order.specs.Orders.{sorted_numbers, more_paired}
 use Rattle.seeded_order.proofs.draws.Draws.order.Goals as goal
 
 pub loop-number-preserved : goal.loop-number-preserved
 loop-number-preserved c =
-    let step = c.next_word.ensures ∙ ap pcg32 c.loop-number.invariant.drawn ∙ next_generator c.args.self.now c.args.stream c.loop-number.number in
-    let word : c.next_word.result ≡ word_of c.args.self.now c.args.stream c.loop-number.number = ap (λ p. p.0) step in
-    let more = more_numbered c.args.self.now c.args.stream c.loop-number.number in
-    let paired = c.loop-number.invariant.paired in
+    let step = next_word_is c.args.self.now c.args.stream c.loop-number.number c.next_word.result c.loop-number.generator c.next_word.new.self c.next_word.ensures c.loop-number.invariant.drawn in
     record {
-      drawn = ap (λ p. p.1) step;
-      paired = c.in_ok-push.ensures.items ∙ ap (λ w. c.loop-number.pairs.items ++ (w, c.loop-number.number) ∷ []) word ∙ ap (λ ps. ps ++ (word_of c.args.self.now c.args.stream c.loop-number.number, c.loop-number.number) ∷ []) paired ∙ sym more;
+      drawn = step.1;
+      paired = c.in_ok-push.ensures.items ∙ more_paired c.args.self.now c.args.stream c.loop-number.number c.next_word.result c.loop-number.pairs.items step.0 c.loop-number.invariant.paired;
     }
 
 pub returns : goal.returns
