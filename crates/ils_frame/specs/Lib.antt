@@ -9,3 +9,4 @@ pub mod Steadying
 pub mod Standing
 pub mod Following
 pub mod Promising
+pub mod Drawing
