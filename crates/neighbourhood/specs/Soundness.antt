@@ -17,11 +17,11 @@ All-flat_map P f [] h = All-nil P
 All-flat_map P f (x ∷ xs) h = All-append P (f x) (flat_map f xs) (All-head (λ y. All P (f y)) x xs h) (All-flat_map P f xs (All-tail (λ y. All P (f y)) x xs h))
 
 -- the numbers of a range are below its end
-range_below : (m a n : ℕ) → a + n ≤ m → All (λ v. v < m) (range_with_len a n)
+pub range_below : (m a n : ℕ) → a + n ≤ m → All (λ v. v < m) (range_with_len a n)
 range_below m a zero h = All-nil (λ v. v < m)
 range_below m a (suc n) h = All-cons (λ v. v < m) a (range_with_len (a + 1) n) (omega arith) (range_below m (a + 1) n (omega arith))
 
-no_param : Param
+pub no_param : Param
 no_param = record { name = []; values = []; default = 0 }
 
 -- a value number that is below the parameter's number of values may be set

@@ -80,7 +80,8 @@ pub fn neighbours(
     config: &Config,
 ) -> Result<Vec<Config>, Memory>
     requires { IsConfig space.now config.now }
-    ensures { IfOk result (λ v. v.items ≡ neighbours_of space.now config.now) }
+    ensures value { IfOk result (λ v. v.items ≡ neighbours_of space.now config.now) }
+    ensures few { IfOk result (λ v. length v.items ≤ 65536) }
 {
     let mut found = Vec::new(alloc);
     for param in 0..param_count(space) {
