@@ -1,9 +1,9 @@
 -- FocusedILS on at most ten places, worked: one parameter with the values a and b, whose only neighbours are each
 -- other, or with one value.
-use Rattle.std.specs.Prelude.{◌≡◌, [], ◌∷◌, length, refl}
+use Rattle.std.specs.Prelude.{ℕ, zero, suc, ◌≡◌, List, [], ◌∷◌, ◌++◌, refl}
 use Rattle.objective.specs.Costs.{Table}
 use Rattle.uncapped.specs.Totals.{total_cost}
-use Rattle.uncapped.specs.Procedure.{Finished}
+use Rattle.uncapped.specs.Procedure.{Question, Finished}
 use Rattle.uncapped.specs.Evaluation.{measure, evaluate, better_focused, catch_up}
 use Rattle.uncapped.specs.Searching.{search_after, try_random, improve, improve_among, search_on, perturb, compare}
 use Rattle.uncapped.specs.Uncapped.{uncapped, Focused, procedure, opening_focused}
@@ -31,3 +31,79 @@ pub three_comparisons : uncapped Focused (two_values 10 3) (total_cost ten_secon
 }
 unfolding uncapped procedure measure evaluate better_focused catch_up opening_focused search_after try_random improve improve_among search_on perturb compare
 three_comparisons = refl
+
+-- then a is compared with itself and comes to all ten places, and b loses on four
+pub five_comparisons : uncapped Focused (two_values 10 5) (total_cost ten_seconds one_against_two) ≡ record {
+  end = Finished;
+  asks =
+    in_full a 1
+    ∷ up_to 1 b 1
+    ∷ in_full a 2
+    ∷ in_full b 2
+    ∷ up_to 4 a 2
+    ∷ in_full a 6
+    ∷ in_full a 3
+    ∷ up_to 3 b 3
+    ∷ in_full a 7
+    ∷ up_to 7 a 7
+    ∷ in_full a 10
+    ∷ in_full a 4
+    ∷ up_to 4 b 4
+    ∷ in_full a 10
+    ∷ [];
+  entries = added 0 (found 0 0 0 a) ∷ [];
+  last = found 5 10 10 a;
+}
+unfolding uncapped procedure measure evaluate better_focused catch_up opening_focused search_after try_random improve improve_among search_on perturb compare
+five_comparisons = refl
+
+-- each run of a costs 3 seconds, each of b 2
+abbrev pub three_against_two : Table
+three_against_two = of_two (always (solved 3)) (always (solved 2))
+
+-- b is the incumbent after one place, and gets two more as a bonus
+pub neighbour_leads : uncapped Focused (two_values 10 1) (total_cost ten_seconds three_against_two) ≡ record {
+  end = Finished;
+  asks = in_full a 1 ∷ up_to 3 b 1 ∷ in_full b 3 ∷ [];
+  entries = added 0 (found 0 0 0 a) ∷ added 2 (found 1 1 2 b) ∷ [];
+  last = found 1 3 6 b;
+}
+unfolding uncapped procedure measure evaluate better_focused catch_up opening_focused search_after try_random improve improve_among search_on perturb compare
+neighbour_leads = refl
+
+-- each run costs 1 second
+abbrev pub one_each : Table
+one_each θ = always (solved 1)
+
+-- with no neighbour, the default is compared with itself, and gets two more places as a bonus
+pub alone_once : uncapped Focused (one_value 10 1) (total_cost ten_seconds one_each) ≡ record {
+  end = Finished;
+  asks = in_full a 1 ∷ up_to 1 a 1 ∷ in_full a 3 ∷ [];
+  entries = added 0 (found 0 0 0 a) ∷ [];
+  last = found 1 3 3 a;
+}
+unfolding uncapped procedure measure evaluate better_focused catch_up opening_focused search_after try_random improve improve_among search_on perturb compare
+alone_once = refl
+
+-- the run at place 1 costs 1 second, that at place 2 costs 2
+abbrev pub one_and_two : Table
+one_and_two θ = then_always (solved 1) (solved 2)
+
+-- a comparison of the default with itself where all places are known
+abbrev pub known_again : List Question
+known_again = in_full a 2 ∷ up_to 3 a 2 ∷ in_full a 2 ∷ []
+
+-- so many of those, one after another
+abbrev pub known_again_times : ℕ → List Question
+known_again_times zero = []
+known_again_times (suc n) = known_again ++ known_again_times n
+
+-- after the first comparison, nineteen more find nothing new
+pub alone_often : uncapped Focused (one_value 2 20) (total_cost ten_seconds one_and_two) ≡ record {
+  end = Finished;
+  asks = (in_full a 1 ∷ up_to 1 a 1 ∷ in_full a 2 ∷ []) ++ known_again_times 19;
+  entries = added 0 (found 0 0 0 a) ∷ [];
+  last = found 20 2 3 a;
+}
+unfolding uncapped procedure measure evaluate better_focused catch_up opening_focused search_after try_random improve improve_among search_on perturb compare
+alone_often = refl
