@@ -57,6 +57,16 @@ pub ties_move : uncapped Basic (two_values 2 2) (total_cost ten_seconds other_ti
 unfolding uncapped procedure measure evaluate better_basic opening_basic search_after try_random improve improve_among search_on perturb compare
 ties_move = refl
 
+-- with no random step either, it is the tie that moves the search to b
+pub ties_alone_move : uncapped Basic (record (two_values 2 2) { strength = 0 }) (total_cost ten_seconds other_ties) ≡ record {
+  end = Finished;
+  asks = in_full a 2 ∷ in_full a 2 ∷ up_to 7 b 2 ∷ in_full b 2 ∷ up_to 7 a 2 ∷ [];
+  entries = added 1 (found 0 2 7 a) ∷ [];
+  last = found 2 2 7 a;
+}
+unfolding uncapped procedure measure evaluate better_basic opening_basic search_after try_random improve improve_among search_on perturb compare
+ties_alone_move = refl
+
 -- a costs 3 and 4 seconds, b 8 and 1
 abbrev pub other_begins_badly : Table
 other_begins_badly = of_two (then_always (solved 3) (solved 4)) (then_always (solved 8) (solved 1))
@@ -112,6 +122,16 @@ pub neighbour_wins : uncapped Basic (two_values 2 2) (total_cost ten_seconds oth
 }
 unfolding uncapped procedure measure evaluate better_basic opening_basic search_after try_random improve improve_among search_on perturb compare
 neighbour_wins = refl
+
+-- the random step goes from b to a, and b wins against that
+pub steps_begin_at_the_best : uncapped Basic (two_values 2 3) (total_cost ten_seconds other_is_better) ≡ record {
+  end = Finished;
+  asks = in_full a 2 ∷ in_full a 2 ∷ up_to 7 b 2 ∷ in_full b 2 ∷ up_to 6 a 2 ∷ in_full a 2 ∷ up_to 7 b 2 ∷ [];
+  entries = added 1 (found 0 2 7 a) ∷ added 3 (found 1 2 6 b) ∷ [];
+  last = found 3 2 6 b;
+}
+unfolding uncapped procedure measure evaluate better_basic opening_basic search_after try_random improve improve_among search_on perturb compare
+steps_begin_at_the_best = refl
 
 -- a costs 3 and 4 seconds, b aborts at place 1
 abbrev pub other_aborts : Table

@@ -71,6 +71,36 @@ pub neighbour_leads : uncapped Focused (two_values 10 1) (total_cost ten_seconds
 unfolding uncapped procedure measure evaluate better_focused catch_up opening_focused search_after try_random improve improve_among search_on perturb compare
 neighbour_leads = refl
 
+-- each run of a costs 3 seconds; of b the run at place 1 costs 6, and each other one 1
+abbrev pub bad_beginning : Table
+bad_beginning = of_two (always (solved 3)) (then_always (solved 6) (solved 1))
+
+-- a has six runs; b costs less on three already, but is the incumbent only once it has six runs as well
+pub catching_up : uncapped Focused (two_values 10 3) (total_cost ten_seconds bad_beginning) ≡ record {
+  end = Finished;
+  asks =
+    in_full a 1
+    ∷ up_to 3 b 1
+    ∷ in_full a 2
+    ∷ in_full b 2
+    ∷ up_to 7 a 2
+    ∷ in_full a 6
+    ∷ in_full a 3
+    ∷ up_to 9 b 3
+    ∷ in_full a 4
+    ∷ up_to 12 b 4
+    ∷ in_full a 5
+    ∷ up_to 15 b 5
+    ∷ in_full a 6
+    ∷ up_to 18 b 6
+    ∷ in_full b 7
+    ∷ [];
+  entries = added 0 (found 0 0 0 a) ∷ added 14 (found 3 6 11 b) ∷ [];
+  last = found 3 7 12 b;
+}
+unfolding uncapped procedure measure evaluate better_focused catch_up opening_focused search_after try_random improve improve_among search_on perturb compare
+catching_up = refl
+
 -- each run costs 1 second
 abbrev pub one_each : Table
 one_each θ = always (solved 1)
@@ -84,6 +114,16 @@ pub alone_once : uncapped Focused (one_value 10 1) (total_cost ten_seconds one_e
 }
 unfolding uncapped procedure measure evaluate better_focused catch_up opening_focused search_after try_random improve improve_among search_on perturb compare
 alone_once = refl
+
+-- a second comparison begins with no bonus left over, and has two again
+pub alone_twice : uncapped Focused (one_value 10 2) (total_cost ten_seconds one_each) ≡ record {
+  end = Finished;
+  asks = in_full a 1 ∷ up_to 1 a 1 ∷ in_full a 3 ∷ in_full a 4 ∷ up_to 4 a 4 ∷ in_full a 6 ∷ [];
+  entries = added 0 (found 0 0 0 a) ∷ [];
+  last = found 2 6 6 a;
+}
+unfolding uncapped procedure measure evaluate better_focused catch_up opening_focused search_after try_random improve improve_among search_on perturb compare
+alone_twice = refl
 
 -- the run at place 1 costs 1 second, that at place 2 costs 2
 abbrev pub one_and_two : Table
