@@ -1,10 +1,13 @@
 -- BasicILS on two places, worked: one parameter with the values a and b, whose only neighbours are each other.
-use Rattle.std.specs.Prelude.{◌≡◌, [], ◌∷◌, refl}
+use Rattle.std.specs.Prelude.{ℕ, ◌≡◌, ◌==◌, ◌&&◌, false, not, [], ◌∷◌, Some, bytes_eq, refl}
+use Rattle.std.proofs.Math.Bool.{and-false}
+use Rattle.std.proofs.Math.Nat.{le_refl}
+use Rattle.std.proofs.lemmas.Bool.{le-ltb}
 use Rattle.objective.specs.Costs.{Table}
 use Rattle.objective.specs.declared.Outcome.TheVariants.{Unsolved}
 use Rattle.uncapped.specs.Totals.{total_cost, quiet}
-use Rattle.uncapped.specs.Procedure.{Finished, Aborted}
-use Rattle.uncapped.specs.Evaluation.{measure, evaluate, better_basic}
+use Rattle.uncapped.specs.Procedure.{Settings, Sums, PlainState, Finished, Aborted}
+use Rattle.uncapped.specs.Evaluation.{measure, evaluate, better_basic, beats}
 use Rattle.uncapped.specs.Searching.{search_after, try_random, improve, improve_among, search_on, perturb, compare}
 use Rattle.uncapped.specs.Uncapped.{uncapped, Basic, procedure, opening_basic}
 use Rattle.uncapped.specs.Example.{ten_seconds, ten_seconds_tenfold, solved, aborted, then_always, a, b, of_two, two_values, in_full, up_to, found, added}
@@ -161,3 +164,7 @@ pub quiet_abort_loses : uncapped Basic (two_values 2 1) (total_cost ten_seconds 
 }
 unfolding uncapped procedure measure evaluate better_basic opening_basic search_after try_random improve improve_among search_on perturb compare
 quiet_abort_loses = refl
+
+-- a tie never replaces the incumbent
+pub tie-is-no-win : (sums : Sums) (s : PlainState) (θ : Settings) (n x : ℕ) → sums s.incumbent n ≡ Some x → beats sums s θ n x ≡ false
+tie-is-no-win sums s θ n x e = rw (e, le-ltb x x (le_refl x), and-false (not (bytes_eq θ s.incumbent) && (n == s.counts s.incumbent))) refl
