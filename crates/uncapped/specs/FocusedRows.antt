@@ -21,15 +21,15 @@ one_against_two = of_two (always (solved 1)) (always (solved 2))
 pub three_comparisons : uncapped Focused (two_values 10 3) (total_cost ten_seconds one_against_two) ≡ record {
   end = Finished;
   asks =
-    in_full a 1
-    ∷ up_to 1 b 1
-    ∷ in_full a 2
-    ∷ in_full b 2
-    ∷ up_to 4 a 2
-    ∷ in_full a 6
-    ∷ in_full a 3
-    ∷ up_to 3 b 3
-    ∷ [];
+      in_full a 1
+      ∷ up_to 1 b 1
+      ∷ in_full a 2
+      ∷ in_full b 2
+      ∷ up_to 4 a 2
+      ∷ in_full a 6
+      ∷ in_full a 3
+      ∷ up_to 3 b 3
+      ∷ [];
   entries = added 0 (found 0 0 0 a) ∷ [];
   last = found 3 6 6 a;
 }
@@ -40,21 +40,21 @@ three_comparisons = refl
 pub five_comparisons : uncapped Focused (two_values 10 5) (total_cost ten_seconds one_against_two) ≡ record {
   end = Finished;
   asks =
-    in_full a 1
-    ∷ up_to 1 b 1
-    ∷ in_full a 2
-    ∷ in_full b 2
-    ∷ up_to 4 a 2
-    ∷ in_full a 6
-    ∷ in_full a 3
-    ∷ up_to 3 b 3
-    ∷ in_full a 7
-    ∷ up_to 7 a 7
-    ∷ in_full a 10
-    ∷ in_full a 4
-    ∷ up_to 4 b 4
-    ∷ in_full a 10
-    ∷ [];
+      in_full a 1
+      ∷ up_to 1 b 1
+      ∷ in_full a 2
+      ∷ in_full b 2
+      ∷ up_to 4 a 2
+      ∷ in_full a 6
+      ∷ in_full a 3
+      ∷ up_to 3 b 3
+      ∷ in_full a 7
+      ∷ up_to 7 a 7
+      ∷ in_full a 10
+      ∷ in_full a 4
+      ∷ up_to 4 b 4
+      ∷ in_full a 10
+      ∷ [];
   entries = added 0 (found 0 0 0 a) ∷ [];
   last = found 5 10 10 a;
 }
@@ -83,22 +83,22 @@ bad_beginning = of_two (always (solved 3)) (then_always (solved 6) (solved 1))
 pub catching_up : uncapped Focused (two_values 10 3) (total_cost ten_seconds bad_beginning) ≡ record {
   end = Finished;
   asks =
-    in_full a 1
-    ∷ up_to 3 b 1
-    ∷ in_full a 2
-    ∷ in_full b 2
-    ∷ up_to 7 a 2
-    ∷ in_full a 6
-    ∷ in_full a 3
-    ∷ up_to 9 b 3
-    ∷ in_full a 4
-    ∷ up_to 12 b 4
-    ∷ in_full a 5
-    ∷ up_to 15 b 5
-    ∷ in_full a 6
-    ∷ up_to 18 b 6
-    ∷ in_full b 7
-    ∷ [];
+      in_full a 1
+      ∷ up_to 3 b 1
+      ∷ in_full a 2
+      ∷ in_full b 2
+      ∷ up_to 7 a 2
+      ∷ in_full a 6
+      ∷ in_full a 3
+      ∷ up_to 9 b 3
+      ∷ in_full a 4
+      ∷ up_to 12 b 4
+      ∷ in_full a 5
+      ∷ up_to 15 b 5
+      ∷ in_full a 6
+      ∷ up_to 18 b 6
+      ∷ in_full b 7
+      ∷ [];
   entries = added 0 (found 0 0 0 a) ∷ added 14 (found 3 6 11 b) ∷ [];
   last = found 3 7 12 b;
 }

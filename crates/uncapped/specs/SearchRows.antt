@@ -41,20 +41,20 @@ three_values comparisons = record (two_values 1 comparisons) { neighbours = two_
 pub lists_are_gone_through : uncapped Basic (three_values 6) (total_cost ten_seconds (by_value (5 ∷ 6 ∷ 4 ∷ []))) ≡ record {
   end = Finished;
   asks =
-    in_full (at 0) 1
-    ∷ in_full (at 0) 1
-    ∷ up_to 5 (at 1) 1
-    ∷ in_full (at 0) 1
-    ∷ up_to 5 (at 2) 1
-    ∷ in_full (at 2) 1
-    ∷ up_to 4 (at 0) 1
-    ∷ in_full (at 2) 1
-    ∷ up_to 4 (at 1) 1
-    ∷ in_full (at 0) 1
-    ∷ up_to 5 (at 1) 1
-    ∷ in_full (at 0) 1
-    ∷ up_to 5 (at 2) 1
-    ∷ [];
+      in_full (at 0) 1
+      ∷ in_full (at 0) 1
+      ∷ up_to 5 (at 1) 1
+      ∷ in_full (at 0) 1
+      ∷ up_to 5 (at 2) 1
+      ∷ in_full (at 2) 1
+      ∷ up_to 4 (at 0) 1
+      ∷ in_full (at 2) 1
+      ∷ up_to 4 (at 1) 1
+      ∷ in_full (at 0) 1
+      ∷ up_to 5 (at 1) 1
+      ∷ in_full (at 0) 1
+      ∷ up_to 5 (at 2) 1
+      ∷ [];
   entries = added 1 (found 0 1 5 (at 0)) ∷ added 5 (found 2 1 4 (at 2)) ∷ [];
   last = found 6 1 4 (at 2);
 }
@@ -86,34 +86,34 @@ twenty_one = 7 ∷ 4 ∷ 6 ∷ 9 ∷ 8 ∷ 6 ∷ 9 ∷ 9 ∷ 9 ∷ 5 ∷ 3 ∷ 8
 pub events_number_draws : uncapped Basic numbered (total_cost ten_seconds (by_value twenty_one)) ≡ record {
   end = Finished;
   asks =
-    in_full (at 9) 1
-    ∷ in_full (at 9) 1
-    ∷ up_to 5 (at 0) 1
-    ∷ in_full (at 9) 1
-    ∷ up_to 5 (at 1) 1
-    ∷ in_full (at 1) 1
-    ∷ up_to 4 (at 2) 1
-    ∷ in_full (at 4) 1
-    ∷ up_to 8 (at 5) 1
-    ∷ in_full (at 5) 1
-    ∷ up_to 6 (at 6) 1
-    ∷ in_full (at 1) 1
-    ∷ up_to 4 (at 5) 1
-    ∷ in_full (at 9) 1
-    ∷ up_to 5 (at 10) 1
-    ∷ in_full (at 10) 1
-    ∷ up_to 3 (at 11) 1
-    ∷ in_full (at 1) 1
-    ∷ up_to 4 (at 10) 1
-    ∷ in_full (at 15) 1
-    ∷ up_to 8 (at 16) 1
-    ∷ in_full (at 13) 1
-    ∷ up_to 9 (at 15) 1
-    ∷ in_full (at 19) 1
-    ∷ up_to 9 (at 20) 1
-    ∷ in_full (at 15) 1
-    ∷ up_to 8 (at 19) 1
-    ∷ [];
+      in_full (at 9) 1
+      ∷ in_full (at 9) 1
+      ∷ up_to 5 (at 0) 1
+      ∷ in_full (at 9) 1
+      ∷ up_to 5 (at 1) 1
+      ∷ in_full (at 1) 1
+      ∷ up_to 4 (at 2) 1
+      ∷ in_full (at 4) 1
+      ∷ up_to 8 (at 5) 1
+      ∷ in_full (at 5) 1
+      ∷ up_to 6 (at 6) 1
+      ∷ in_full (at 1) 1
+      ∷ up_to 4 (at 5) 1
+      ∷ in_full (at 9) 1
+      ∷ up_to 5 (at 10) 1
+      ∷ in_full (at 10) 1
+      ∷ up_to 3 (at 11) 1
+      ∷ in_full (at 1) 1
+      ∷ up_to 4 (at 10) 1
+      ∷ in_full (at 15) 1
+      ∷ up_to 8 (at 16) 1
+      ∷ in_full (at 13) 1
+      ∷ up_to 9 (at 15) 1
+      ∷ in_full (at 19) 1
+      ∷ up_to 9 (at 20) 1
+      ∷ in_full (at 15) 1
+      ∷ up_to 8 (at 19) 1
+      ∷ [];
   entries = added 1 (found 0 1 5 (at 9)) ∷ added 5 (found 2 1 4 (at 1)) ∷ added 15 (found 7 1 3 (at 10)) ∷ [];
   last = found 13 1 3 (at 10);
 }
@@ -136,14 +136,14 @@ nowhere_to_go = record numbered {
 pub empty_lists_take_events : uncapped Basic nowhere_to_go (total_cost ten_seconds (by_value twenty_one)) ≡ record {
   end = Finished;
   asks =
-    in_full (at 9) 1
-    ∷ in_full (at 9) 1
-    ∷ up_to 5 (at 9) 1
-    ∷ in_full (at 4) 1
-    ∷ up_to 8 (at 4) 1
-    ∷ in_full (at 8) 1
-    ∷ up_to 9 (at 8) 1
-    ∷ [];
+      in_full (at 9) 1
+      ∷ in_full (at 9) 1
+      ∷ up_to 5 (at 9) 1
+      ∷ in_full (at 4) 1
+      ∷ up_to 8 (at 4) 1
+      ∷ in_full (at 8) 1
+      ∷ up_to 9 (at 8) 1
+      ∷ [];
   entries = added 1 (found 0 1 5 (at 9)) ∷ [];
   last = found 3 1 5 (at 9);
 }
