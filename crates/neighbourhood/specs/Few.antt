@@ -1,5 +1,6 @@
 -- A configuration has at most 65,536 neighbours.
 use Rattle.std.proofs.Common.{ℕ, zero, suc, ◌+◌, ◌*◌, ◌≡◌, ◌<◌, ◌≤◌, ◌==◌, not, Bool, true, false, cond, List, [], ◌∷◌, ◌++◌, length, map, ap, arith, length-append}
+use Rattle.std.specs.Prelude.{slice_index}
 use Rattle.std.specs.List.{All, filter, flat_map, range_with_len}
 use Rattle.std.proofs.lemmas.List.{get_or-map, length-map}
 use Rattle.std.proofs.lemmas.List.Elements.{All-nil, All-head, All-tail, All-filter, All-weaker}
@@ -33,8 +34,8 @@ few_exchanges lists space θ p lt =
     let count : value_count lists.params p ≡ _ = get_or-map (λ (q : Param). length q.values) lists.params p no_param 0 lt in
     let few = few_values lists.params p no_param space.sound lt in
     let all = length-range_with_len 0 (value_count lists.params p) in
-    let some = kept (λ v. not (v == _)) (range_with_len 0 (value_count lists.params p)) in
-    let same = length-map (exchanged lists θ p) (other_values lists.params θ p) in
+    let some = kept (λ v. not (v == slice_index θ p)) (range_with_len 0 (value_count lists.params p)) in
+    let same = length-map (other_values lists.params θ p) (exchanged lists θ p) in
     omega (arith, count, few, all, some, same)
 
 -- at most 256 parameters with at most 256 values each

@@ -4,7 +4,7 @@
 
 ghost use Rattle.std.specs.Prelude.{◌≡◌, ◌<◌, ◌≤◌, ◌++◌, ◌∷◌, [], IfOk, OnOk, length};
 ghost use Rattle.std.specs.List.{filter};
-ghost use Rattle.param_space.specs.Space.{Belongs};
+ghost use Rattle.param_space.specs.Space.{Belongs, IsSpace};
 ghost use Rattle.param_space.specs.Configurations.{is_allowed as allowed, IsConfig};
 ghost use Rattle.neighbourhood.specs.Neighbours.{value_count as count_of_values, exchanged, exchanges, neighbours_of};
 
@@ -14,7 +14,8 @@ use std::alloc::Global;
 
 /// How many parameters the space has.
 fn param_count(space: &Space) -> u16
-    ensures { result ≡ length space.now.params }
+    ensures value { result ≡ length space.now.params }
+    ensures space { IsSpace space.now }
 {
     space.params().len() as u16
 }
