@@ -14,7 +14,7 @@ use std::marker::Model;
 /// How many configurations are drawn before the default is taken.
 const ATTEMPTS: u32 = 1000;
 
-/// The draws of a seed. Contracts see it as the seed.
+/// The draws of a seed. Contracts see it as the seed. Streams are numbered below 2^62.
 #[derive(Clone, Copy, Debug)]
 pub struct Draws {
     seed: u32,
@@ -54,6 +54,7 @@ impl Draws {
         generator.advance(u64::from(k));
         generator.next_word()
     }
+
     /// The numbers below `n` in the order of the stream's words: the number with the
     /// least word first, ties by the number.
     pub fn order(&self, alloc: Global, stream: u64, n: u32) -> Result<Vec<u32>, Memory>
