@@ -75,11 +75,7 @@ fn push_exchanges(
 /// The neighbours of a configuration: the allowed configurations that come from giving one
 /// active parameter another value and putting each parameter that is inactive then at its
 /// default; by parameter and then by value number. The one error is want of memory.
-pub fn neighbours(
-    alloc: Global,
-    space: &Space,
-    config: &Config,
-) -> Result<Vec<Config>, Memory>
+pub fn neighbours(alloc: Global, space: &Space, config: &Config) -> Result<Vec<Config>, Memory>
     requires { IsConfig space.now config.now }
     ensures value { IfOk result (λ v. v.items ≡ neighbours_of space.now config.now) }
     ensures few { IfOk result (λ v. length v.items ≤ 65536) }

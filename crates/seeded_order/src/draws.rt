@@ -14,7 +14,7 @@ use std::marker::Model;
 /// How many configurations are drawn before the default is taken.
 const ATTEMPTS: u32 = 1000;
 
-/// The draws of a seed. Contracts see it as the seed.
+/// The draws of a seed. Contracts see it as the seed. Streams are numbered below 2^62.
 #[derive(Clone, Copy, Debug)]
 pub struct Draws {
     seed: u32,
