@@ -1,4 +1,4 @@
-use Rattle.std.proofs.Common.{◌∙◌, arith, ap}
+use Rattle.std.proofs.Common.{◌≡◌, ◌∙◌, arith, ap, length}
 use Rattle.std.proofs.lemmas.Grind.{common_steps}
 use Rattle.neighbourhood.specs.Neighbours.{neighbours_of}
 use Rattle.neighbourhood.specs.Few.{few_neighbours}
