@@ -60,8 +60,8 @@ impl Neighbours {
         ensures { IfOk result (λ n. n ≡ self.now) }
     {
         let mut configs = VecDeque::new(*self.configs.allocator());
-        for config in &self.configs {
-            configs.push_back(config.copy()?)?;
+        for place in 0..self.configs.len() {
+            configs.push_back(self.configs[place].copy()?)?;
         }
         Ok(Neighbours { configs })
     }

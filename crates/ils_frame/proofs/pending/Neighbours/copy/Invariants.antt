@@ -1,6 +1,6 @@
-use Rattle.std.proofs.Common.{◌≡◌}
+use Rattle.std.proofs.Common.{◌≡◌, take}
 use Rattle.ils_frame.proofs.pending.Neighbours.copy.Given as goal
 
 -- the configurations so far
-abbrev pub invariant-loop-config : goal.invariant-loop-config
-invariant-loop-config l = ?
+abbrev pub invariant-loop-place : goal.invariant-loop-place
+invariant-loop-place l = l.configs.items ≡ take l.place l.self
