@@ -1,5 +1,5 @@
 -- The steps of a perturbation, one after the other.
-use Rattle.std.proofs.Common.{ℕ, zero, suc, ◌≡◌, ◌+◌, ◌-◌, ◌≤◌, ◌<◌, refl, sym, ◌∙◌, ap, arith}
+use Rattle.std.proofs.Common.{ℕ, suc, ◌≡◌, ◌+◌, ◌-◌, ◌≤◌, ◌<◌, refl, sym, ◌∙◌, ap, arith}
 use Rattle.uncapped.specs.Procedure.{Settings}
 use Rattle.uncapped.specs.Setup.{Setup}
 use Rattle.ils_frame.specs.Nexts.{Reached, stepped, perturbed}

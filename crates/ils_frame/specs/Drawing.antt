@@ -1,6 +1,5 @@
 -- What is drawn by the rules of a search is allowed.
-use Rattle.std.proofs.Common.{ℕ, ◌≡◌, ◌+◌, ◌*◌, ◌≤◌, ◌<◌, List, [], ◌∷◌, length, map, Option, Some, None, IfSome, All, refl, sym, subst, arith}
-use Rattle.std.specs.List.{slice_index_or}
+use Rattle.std.proofs.Common.{ℕ, ◌<◌, List, [], ◌∷◌, length, IfSome, All, arith}
 use Rattle.std.proofs.lemmas.List.Elements.{All-head, All-tail, All-get_or}
 use Rattle.param_space.specs.Configurations.{IsConfig}
 use Rattle.param_space.specs.Unconditional.{default_is_config}

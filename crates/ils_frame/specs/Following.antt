@@ -1,18 +1,17 @@
 -- A search over any comparer, answered by total costs, shows the asks and the entries of the procedure.
-use Rattle.std.proofs.Common.{ℕ, zero, suc, ◌≡◌, ◌+◌, ◌-◌, ◌≤◌, ◌<◌, Bool, true, false, List, [], ◌∷◌, ◌++◌, map, filter, take, length, slice_get, Option, Some, None, IfSome, IsSome, is_some, nat_le, cond, if◌then◌else◌, refl, sym, ◌∙◌, ap, subst, arith, append_assoc, length-append}
-use Rattle.std.proofs.lemmas.Bool.{false≢true, leb-true, le-leb}
+use Rattle.std.proofs.Common.{ℕ, zero, suc, ◌≡◌, ◌+◌, ◌≤◌, ◌<◌, Bool, true, false, List, [], ◌∷◌, ◌++◌, map, filter, take, length, slice_get, Option, Some, None, IfSome, IsSome, is_some, nat_le, cond, refl, sym, ◌∙◌, ap, arith, append_assoc, length-append}
+use Rattle.std.proofs.lemmas.Bool.{leb-true, le-leb}
 use Rattle.std.proofs.lemmas.List.{append-nil, map-append}
 use Rattle.std.proofs.lemmas.List.Elements.{filter-append}
-use Rattle.uncapped.specs.Procedure.{Settings, Sums, Question, Incumbent, Addition, PlainState, End, Finished, Aborted, Goes, Ends, Procedure, goes_on, ◌>>=◌}
+use Rattle.uncapped.specs.Procedure.{Settings, Sums, Question, Incumbent, Addition, PlainState, Finished, Aborted, Procedure}
 use Rattle.uncapped.specs.Setup.{Setup}
-use Rattle.uncapped.specs.Evaluation.{after_ask}
-use Rattle.uncapped.specs.Uncapped.{Run, run_after, run_of, or_nothing}
+use Rattle.uncapped.specs.Uncapped.{Run, run_after, or_nothing}
 use Rattle.ils_face.specs.declared.asks.Reply.{Reply}
-use Rattle.ils_face.specs.Replies.{Fits, asking, up_to, cost_asked, reply_to, replied}
-use Rattle.ils_frame.specs.Comparing.{Phase, Ready, Asking, Decided, is_asking, question_in, Parts, IsSteady, numbered, last_of, Keeps}
+use Rattle.ils_face.specs.Replies.{Fits, asking, up_to, cost_asked, reply_to}
+use Rattle.ils_frame.specs.Comparing.{Phase, Ready, Asking, Decided, is_asking, question_in, Parts, IsSteady, numbered, Keeps}
 use Rattle.ils_frame.specs.Machine.{Machine, answered, after_all, view_of, answered_state, search_coming}
 use Rattle.ils_frame.specs.Naming.{DrawsAllowed}
-use Rattle.ils_frame.specs.Fitting.{IsFitting, Replied, replies, not-asking}
+use Rattle.ils_frame.specs.Fitting.{Replied, replies, not-asking}
 use Rattle.ils_frame.specs.Standing.{IsSound, Turn, turns, aborts, finishes}
 
 -- ---- entries by the number of asks before them

@@ -10,3 +10,4 @@ pub mod Standing
 pub mod Following
 pub mod Promising
 pub mod Drawing
+pub mod Upcoming

@@ -1,5 +1,5 @@
 -- Each comparison is of allowed configurations.
-use Rattle.std.proofs.Common.{ℕ, zero, suc, ◌≡◌, ◌+◌, ◌-◌, Bool, true, false, List, [], ◌∷◌, Option, Some, None, IfSome, if◌then◌else◌}
+use Rattle.std.proofs.Common.{ℕ, zero, suc, ◌+◌, ◌-◌, Bool, true, false, List, [], ◌∷◌, Option, Some, None, IfSome, if◌then◌else◌}
 use Rattle.uncapped.specs.Procedure.{Settings}
 use Rattle.uncapped.specs.Setup.{Setup}
 use Rattle.uncapped.specs.Searching.{or_stay}
@@ -7,7 +7,7 @@ use Rattle.ils_frame.specs.declared.pending.After.{After}
 use Rattle.ils_frame.specs.declared.pending.After.TheVariants.{First, Turn}
 use Rattle.ils_frame.specs.declared.pending.Pending.{Pending}
 use Rattle.ils_frame.specs.declared.pending.Pending.TheVariants.{Opening, Trying, Improving, Returning}
-use Rattle.ils_frame.specs.Nexts.{Next, Compare, Finish, Reached, ordered, stepped, perturbed, among, returned, next_far, next_turn, next_after, next_improved, next_tried, next}
+use Rattle.ils_frame.specs.Nexts.{Next, Compare, Finish, Reached, ordered, stepped, perturbed, among, returned, next_far, next_turn, next_after, next_tried, next}
 
 module _ (allowed : Settings → Type 0) where
   -- each of the configurations is allowed

@@ -1,13 +1,13 @@
 -- The procedure goes on by the next comparison.
-use Rattle.std.proofs.Common.{ℕ, zero, suc, ◌≡◌, ◌+◌, ◌-◌, Bool, true, false, List, [], ◌∷◌, if◌then◌else◌, refl, sym, ◌∙◌, ap}
-use Rattle.uncapped.specs.Procedure.{Settings, PlainState, Step, Goes, Ends, Finished, Procedure, goes_on, ◌>>=◌, ◌>>◌}
+use Rattle.std.proofs.Common.{ℕ, zero, suc, ◌≡◌, ◌+◌, ◌-◌, Bool, true, false, List, [], ◌∷◌, if◌then◌else◌, refl, ◌∙◌, ap}
+use Rattle.uncapped.specs.Procedure.{Settings, PlainState, Step, Goes, Ends, Procedure, goes_on, ◌>>=◌}
 use Rattle.uncapped.specs.Setup.{Setup}
 use Rattle.uncapped.specs.Searching.{compare, improve_among, improve, try_random, perturb, search_on}
 use Rattle.ils_frame.specs.declared.pending.After.{After}
 use Rattle.ils_frame.specs.declared.pending.After.TheVariants.{First, Turn}
 use Rattle.ils_frame.specs.declared.pending.Pending.{Pending}
 use Rattle.ils_frame.specs.declared.pending.Pending.TheVariants.{Opening, Trying, Improving, Returning}
-use Rattle.ils_frame.specs.Nexts.{Next, Compare, Finish, Reached, ordered, stepped, perturbed, among, returned, next_far, next_turn, next_after, next_improved, next_tried, next, search_from, come_back, finish, go_on, try_from, following, run_next}
+use Rattle.ils_frame.specs.Nexts.{Next, Compare, Finish, Reached, ordered, stepped, perturbed, among, returned, next_far, next_turn, next_after, next_improved, next_tried, next, search_from, come_back, finish, try_from, following, run_next}
 
 -- the state before another draw
 abbrev pub at_event : PlainState → ℕ → PlainState

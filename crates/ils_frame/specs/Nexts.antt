@@ -65,14 +65,17 @@ module _ (setup : Setup) where
   next_tried m zero current e = next_improved m current e
   next_tried m (suc more) current e = Compare (Trying more (setup.random e) current) (setup.random e) current (e + 1)
 
+  -- the coin decides whether the next turn begins at the best so far or at random
+  abbrev pub restarted : ℕ → ℕ → Settings → ℕ → Next
+  restarted m more best e = if setup.coin e then next_turn m more (setup.random (e + 1)) (e + 1 + 1) else next_turn m more best (e + 1)
+
   -- what follows when the present comparison came to this, where m comparisons are begun
   abbrev pub next : ℕ → Pending → Bool → ℕ → Next
   next m Opening won e = next_tried m setup.initial setup.start e
   next m (Trying more θ current) won e = next_tried m more (if won then θ else current) e
   next m (Improving after left θ φ rest) won e =
       if won then among after (next_after m after) left φ (ordered φ e) (e + 1) else among after (next_after m after) left θ rest e
-  next m (Returning more θ ils) won e =
-      if setup.coin e then next_turn m more (setup.random (e + 1)) (e + 1 + 1) else next_turn m more (if won then θ else ils) (e + 1)
+  next m (Returning more θ ils) won e = restarted m more (if won then θ else ils) e
 
   -- ---- the same as procedures
 

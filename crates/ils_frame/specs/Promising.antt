@@ -1,25 +1,24 @@
 -- A search over any comparer follows the procedure.
-use Rattle.std.proofs.Common.{ℕ, zero, suc, ◌≡◌, ◌+◌, ◌-◌, ◌≤◌, ◌<◌, Bool, true, false, List, [], ◌∷◌, ◌++◌, map, filter, take, length, slice_get, Option, Some, None, IfSome, IsSome, nat_le, if◌then◌else◌, refl, sym, ◌∙◌, ap, subst, arith, take_all}
+use Rattle.std.proofs.Common.{ℕ, suc, ◌≡◌, ◌+◌, ◌≤◌, Bool, true, false, [], ◌++◌, map, filter, length, Option, Some, None, nat_le, if◌then◌else◌, refl, sym, ◌∙◌, ap, subst, arith, take_all}
 use Rattle.std.proofs.lemmas.Bool.{leb-true}
 use Rattle.std.proofs.lemmas.List.{map-append}
 use Rattle.std.proofs.lemmas.List.Elements.{filter-append}
-use Rattle.uncapped.specs.Procedure.{Settings, Sums, Question, Incumbent, Addition, PlainState, End, Finished, Aborted, Procedure, goes_on, ◌>>=◌, give}
+use Rattle.uncapped.specs.Procedure.{Settings, Sums, Question, PlainState, End, Finished, Aborted, Procedure, goes_on, give}
 use Rattle.uncapped.specs.Setup.{Setup}
-use Rattle.uncapped.specs.Searching.{search_after, try_random, improve}
+use Rattle.uncapped.specs.Searching.{search_after}
 use Rattle.uncapped.specs.Uncapped.{Run, run_after, at_first}
-use Rattle.ils_face.specs.declared.asks.Reply.{Reply}
 use Rattle.ils_face.specs.declared.asks.Reply.TheVariants.{Exact, Exceeds}
-use Rattle.ils_face.specs.Replies.{Fits, asking, ask_for, up_to, cost_asked, reply_to, replies_to, replied, ask_at, entries_before}
-use Rattle.ils_face.specs.Shown.{Follows, ShowsEnd, StopsShort, answered}
+use Rattle.ils_face.specs.Replies.{Fits, asking, ask_for, up_to, replied, entries_before}
+use Rattle.ils_face.specs.Shown.{Follows, answered}
 use Rattle.ils_frame.specs.declared.pending.Pending.TheVariants.{Opening}
 use Rattle.ils_frame.specs.Comparing.{decision_in, Parts, IsSteady, numbered, opened_state, Keeps}
 use Rattle.ils_frame.specs.Nexts.{following}
 use Rattle.ils_frame.specs.Nextings.{bind_assoc}
-use Rattle.ils_frame.specs.Machine.{Machine, opened, after_all, view_of, settle_state, search_coming}
+use Rattle.ils_frame.specs.Machine.{Machine, opened, view_of, settle_state, search_coming}
 use Rattle.ils_frame.specs.Naming.{DrawsAllowed}
 use Rattle.ils_frame.specs.Fitting.{IsSettled, opened-settled}
 use Rattle.ils_frame.specs.Steadying.{shown_from}
-use Rattle.ils_frame.specs.Standing.{StandsFor, settles, settle_stands, IsSound}
+use Rattle.ils_frame.specs.Standing.{StandsFor, settles, settle_stands}
 use Rattle.ils_frame.specs.Following.{entry_in, is_before, unnumbered, before-all, Plays, plays}
 
 -- a table's reply fits its question

@@ -6,7 +6,7 @@ use Rattle.ils_frame.specs.declared.pending.After.{After}
 use Rattle.ils_frame.specs.declared.pending.After.TheVariants.{First, Turn}
 use Rattle.ils_frame.specs.declared.pending.Pending.{Pending}
 use Rattle.ils_frame.specs.declared.pending.Pending.TheVariants.{Opening, Trying, Improving, Returning}
-use Rattle.ils_frame.specs.Nexts.{Next, Compare, Finish, Reached, ordered, stepped, perturbed, among, returned, next_far, next_turn, next_after, next_improved, next_tried, next}
+use Rattle.ils_frame.specs.Nexts.{Next, Compare, Finish, Reached, ordered, stepped, perturbed, among, returned, next_far, next_turn, next_after, next_tried, next}
 
 module _ (setup : Setup) where
   -- the turns that follow suffice for the comparisons that are left

@@ -1,19 +1,19 @@
 -- A search over any comparer, answered by total costs, stands for a state of the procedure at each step.
-use Rattle.std.proofs.Common.{ℕ, ◌≡◌, ◌+◌, ◌≤◌, Bool, true, false, not, List, [], ◌∷◌, ◌++◌, length, Option, Some, None, ◌==◌, if◌then◌else◌, refl, sym, ◌∙◌, ap, subst}
+use Rattle.std.proofs.Common.{ℕ, ◌≡◌, ◌+◌, ◌≤◌, Bool, true, false, not, [], ◌∷◌, ◌++◌, length, Some, None, ◌==◌, if◌then◌else◌, refl, sym, ◌∙◌, ap, subst}
 use Rattle.std.proofs.lemmas.Bool.{false≢true}
-use Rattle.uncapped.specs.Procedure.{Settings, Sums, Question, Incumbent, Addition, PlainState, Finished, Aborted, Goes, Ends, Procedure, goes_on, ◌>>=◌}
+use Rattle.uncapped.specs.Procedure.{Settings, Sums, Question, PlainState, Finished, Aborted, Ends, Procedure, goes_on, ◌>>=◌}
 use Rattle.uncapped.specs.Setup.{Setup}
 use Rattle.uncapped.specs.Evaluation.{after_ask}
 use Rattle.uncapped.specs.Searching.{compare}
 use Rattle.ils_face.specs.declared.asks.Reply.{Reply}
 use Rattle.ils_face.specs.Replies.{Fits, asking, up_to, cost_asked}
 use Rattle.ils_frame.specs.declared.pending.Pending.{Pending}
-use Rattle.ils_frame.specs.Comparing.{Phase, Ready, Asking, Decided, is_asking, question_in, decision_in, Parts, Answered, IsSteady, Advanced, Unasked, numbered, last_of, GoesOn, Starts, Keeps}
+use Rattle.ils_frame.specs.Comparing.{Phase, Ready, Asking, Decided, is_asking, question_in, decision_in, Parts, Answered, IsSteady, numbered, GoesOn, Starts, Keeps}
 use Rattle.ils_frame.specs.Nexts.{Next, Compare, Finish, next, following, run_next}
 use Rattle.ils_frame.specs.Nextings.{at_event, nexts}
 use Rattle.ils_frame.specs.Machine.{Machine, begin, settle, answered, begin_state, settle_state, answered_state, search_coming}
 use Rattle.ils_frame.specs.Naming.{DrawsAllowed}
-use Rattle.ils_frame.specs.Fitting.{IsFitting, IsSettled, Replied, live, not-asking, answered-settled}
+use Rattle.ils_frame.specs.Fitting.{IsFitting, IsSettled, live, answered-settled}
 
 -- a comparison that still has its place in the budget
 compares : (setup : Setup) (better : Settings → Settings → Procedure Bool) (θ φ : Settings) (s : PlainState) → (s.compared == setup.budget) ≡ false → compare setup better θ φ s ≡ better θ φ (record s { compared = s.compared + 1 })

@@ -1,5 +1,5 @@
 -- A search over any comparer keeps what every search promises, whatever fitting replies come.
-use Rattle.std.proofs.Common.{ℕ, ◌≡◌, ◌≤◌, ◌<◌, ◌⊎◌, inl, inr, Bool, true, false, not, All, List, [], ◌∷◌, ◌++◌, Option, Some, None, refl, sym, ◌∙◌, ap, subst, arith}
+use Rattle.std.proofs.Common.{ℕ, ◌≡◌, ◌≤◌, ◌⊎◌, inl, inr, Bool, true, false, not, List, [], ◌∷◌, ◌++◌, Option, Some, None, refl, sym, ◌∙◌, ap, subst, arith}
 use Rattle.std.proofs.lemmas.Bool.{false≢true}
 use Rattle.param_space.specs.Configurations.{IsConfig}
 use Rattle.uncapped.specs.Procedure.{Question, Incumbent}
@@ -11,7 +11,7 @@ use Rattle.ils_face.specs.declared.asks.Reply.TheVariants.{Exact}
 use Rattle.ils_face.specs.Replies.{Fits, asking, ask_for}
 use Rattle.ils_face.specs.Rules.{Rules}
 use Rattle.ils_face.specs.Setups.{SetupOf}
-use Rattle.ils_face.specs.Shown.{View, AreFitting, IsEvaluation, IsAsk, AsksFor, WasReplied, IsEarned, Grows, Steps}
+use Rattle.ils_face.specs.Shown.{View, AreFitting, IsEvaluation, IsAsk, AsksFor, WasReplied, IsEarned, Steps}
 use Rattle.ils_face.specs.Shown.{IsSteady as IsSearchSteady}
 use Rattle.ils_frame.specs.Comparing.{Phase, Ready, Asking, Decided, is_asking, question_in, Parts, SameIncumbent, NewIncumbent, InRange, IsSteady}
 use Rattle.ils_frame.specs.Machine.{Machine, opened, answered, after_all, view_of}

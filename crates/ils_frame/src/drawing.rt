@@ -91,3 +91,22 @@ pub(crate) fn perturbed(
     }
     Ok(reached)
 }
+
+/// The configuration that an event draws at random.
+#[tactic(auto, unfolding(ils_face::specs::Setups::setup_of))]
+pub(crate) fn random_config(alloc: Global, rules: &Rules, event: u64) -> Result<Config, Memory>
+    requires { event < 2 ^ 61 }
+    ensures value { IfOk result (λ c. c ≡ (setup_of rules.now).random event) }
+    ensures sound { IfOk result (λ c. IsConfig rules.now.space c) }
+{
+    Draws::new(rules.seed).random_config(alloc, stream_of(event), &rules.space)
+}
+
+/// The coin of an event: whether the search restarts.
+#[tactic(auto, unfolding(ils_face::specs::Setups::setup_of))]
+pub(crate) fn restarts(rules: &Rules, event: u64) -> bool
+    requires { event < 2 ^ 61 }
+    ensures { result ≡ (setup_of rules.now).coin event }
+{
+    Draws::new(rules.seed).coin(stream_of(event), rules.restart)
+}

@@ -4,6 +4,7 @@
 mod comparer;
 mod drawing;
 mod pending;
+mod upcoming;
 
 pub use comparer::Comparer;
 pub use pending::Stage;

@@ -81,6 +81,21 @@ pub(crate) enum After {
     },
 }
 
+impl After {
+    /// The same.
+    pub(crate) fn copy(&self) -> Result<After, Memory>
+        ensures { IfOk result (λ a. a ≡ self.now) }
+    {
+        match self {
+            After::First => Ok(After::First),
+            After::Turn { more, ils } => Ok(After::Turn {
+                more: *more,
+                ils: ils.copy()?,
+            }),
+        }
+    }
+}
+
 /// What the present comparison is for.
 #[derive(Drop)]
 pub(crate) enum Pending {
