@@ -1,0 +1,4 @@
+pub mod State
+pub mod Steady
+pub mod Evaluations
+pub mod Keeps
