@@ -5,15 +5,21 @@ use Rattle.std.proofs.lemmas.Bool.{le-ltb, leb-false, ltb-false, and_cases, not-
 use Rattle.std.proofs.lemmas.Slice.Eq.{bytes_eq-Decides}
 use Rattle.std.proofs.Math.Bool.{and-false}
 use Rattle.std.proofs.Math.Nat.{le_refl}
+use Rattle.objective.specs.Costs.{Table}
+use Rattle.param_space.specs.Space.{defaults}
+use Rattle.param_space.specs.Configurations.{IsConfig}
 use Rattle.uncapped.specs.Procedure.{Settings, Sums, Question, Incumbent, PlainState, Goes, Ends, Aborted, Procedure, goes_on, ◌>>=◌, give}
 use Rattle.uncapped.specs.Setup.{Setup}
 use Rattle.uncapped.specs.Evaluation.{after_ask, after_entry, counted, measure, evaluate, better_basic}
 use Rattle.uncapped.specs.Uncapped.{opening_basic, at_first, or_nothing}
+use Rattle.ils_face.specs.Rules.{Rules, AreRules}
+use Rattle.ils_face.specs.Setups.{setup_of, setup_of-numbers, SetupOf}
+use Rattle.ils_face.specs.Shown.{sums_under}
 use Rattle.ils_face.specs.Replies.{up_to, cost_asked}
 use Rattle.ils_face.specs.declared.asks.Reply.{Reply}
 use Rattle.ils_face.specs.declared.asks.Reply.TheVariants.{Exact, Exceeds}
 use Rattle.ils_frame.specs.Comparing.{Phase, Ready, Asking, Decided, question_in, decision_in, Advanced, Unasked, GoesOn, Starts, Keeps, last_of, numbered, opened_state}
-use Rattle.basic_ils.specs.State.{Place, Opening, Opened, Second, First, Compared, State, phase_at, place_after, is_better, entry, entry_where, added_at, newest, measured, won_where, replied_at, coming_at, coming, basic, IsFit, IsFresh, IsKnown, Stands, StandsAt}
+use Rattle.basic_ils.specs.State.{Place, Opening, Opened, Second, First, Compared, State, phase_at, place_after, is_better, entry, entry_where, added_at, newest, measured, won_where, replied_at, coming_at, coming, basic, opened, IsFit, IsFresh, IsKnown, Stands, StandsAt}
 use Rattle.basic_ils.specs.Steady.{at_question}
 use Rattle.basic_ils.specs.Evaluations.{counted_most, counted_top, counted_itself, measure-known, measure-unknown, evaluate-known, evaluate-unknown}
 
@@ -249,3 +255,10 @@ basic_keeps n allowed start setup sums m b zero = record {
   ended = λ c s b e. ended_at setup sums c.max_runs c.last.config c.place s b e;
   last = λ c s f k. last_by c.max_runs sums start c.last c.place s zero k.incumbent k.compared k.place;
 }
+
+-- under the rules of a search, with the replies of a table
+pub rules_keep : (rules : Rules) (T : Table) → AreRules rules
+    → Keeps basic (IsFit rules.max_runs (IsConfig rules.space)) (Stands (defaults rules.space.params) (sums_under rules T)) (coming (setup_of rules) (sums_under rules T)) (better_basic (setup_of rules) (sums_under rules T)) (opening_basic (setup_of rules) (sums_under rules T)) (setup_of rules) (sums_under rules T) (opened rules)
+rules_keep rules T are =
+    let s : SetupOf rules (setup_of rules) = setup_of-numbers rules in
+    basic_keeps rules.max_runs (IsConfig rules.space) (defaults rules.space.params) (setup_of rules) (sums_under rules T) s.max_runs s.start (λ θ. refl)

@@ -2,12 +2,14 @@
 use Rattle.std.proofs.Common.{◌≡◌, ℕ, ◌+◌, ◌*◌, ◌≤◌, ◌<◌, ◌⊎◌, inl, inr, Bool, true, false, All, List, [], ◌∷◌, ◌++◌, Option, Some, None, IfSome, if◌then◌else◌, refl, sym, ap, subst, arith}
 use Rattle.std.proofs.lemmas.List.Elements.{All-append, All-push}
 use Rattle.std.proofs.Math.Nat.{le_refl}
+use Rattle.param_space.specs.Space.{Lists, IsSpace, defaults}
+use Rattle.param_space.specs.Configurations.{IsConfig}
 use Rattle.uncapped.specs.Procedure.{Settings, Question, Incumbent}
-use Rattle.ils_face.specs.Replies.{Fits, asking, ask_for}
+use Rattle.ils_face.specs.Rules.{Rules, AreRules}
 use Rattle.ils_face.specs.declared.asks.Reply.{Reply}
 use Rattle.ils_face.specs.declared.asks.Reply.TheVariants.{Exact, Exceeds}
 use Rattle.ils_frame.specs.Comparing.{Phase, Ready, Asking, Decided, question_in, SameIncumbent, NewIncumbent, Answered, Begun, InRange, IsSteady}
-use Rattle.basic_ils.specs.State.{Place, Opening, Opened, Second, First, Compared, State, phase_at, place_after, evaluated, is_better, is_renewed, entry, entry_where, added_at, newest, left_at, basic, IsPlaceFit, AreAllowed, IsFit}
+use Rattle.basic_ils.specs.State.{Place, Opening, Opened, Second, First, Compared, State, phase_at, place_after, evaluated, is_better, is_renewed, entry, entry_where, added_at, newest, left_at, basic, opened, IsPlaceFit, AreAllowed, IsFit}
 
 -- ---- questions
 
@@ -176,3 +178,11 @@ basic_steady n allowed start some s = record {
   answered = λ c q r f e h. answered n allowed c q r f e;
   begins = λ c θ φ m f none some s t. begins n allowed c θ φ m f some s t;
 }
+
+-- the default configuration is an allowed one
+default_is_config : (lists : Lists) → IsSpace lists → IsConfig lists (defaults lists.params)
+default_is_config lists space = ?
+
+-- under the rules of a search
+pub rules_steady : (rules : Rules) → AreRules rules → IsSteady basic (IsFit rules.max_runs (IsConfig rules.space)) rules.max_runs (IsConfig rules.space) (defaults rules.space.params) (opened rules)
+rules_steady rules are = basic_steady rules.max_runs (IsConfig rules.space) (defaults rules.space.params) are.some_run (default_is_config rules.space are.space)
