@@ -18,6 +18,16 @@ pub record Reached : Type 0 where
   pub config : Settings
   pub event : ℕ
 
+-- the first of these neighbours is next, or else what follows the improvement
+abbrev pub among : After → (Settings → ℕ → Next) → ℕ → Settings → List Settings → ℕ → Next
+among after done left θ [] e = done θ e
+among after done zero θ (φ ∷ rest) e = Finish e
+among after done (suc left) θ (φ ∷ rest) e = Compare (Improving after left θ φ rest) φ θ e
+
+-- what was found is compared with the best so far
+abbrev pub returned : ℕ → Settings → Settings → ℕ → Next
+returned more ils θ e = Compare (Returning more θ ils) θ ils e
+
 module _ (setup : Setup) where
   -- the neighbours of a configuration in the order of an event
   abbrev pub ordered : Settings → ℕ → List Settings
@@ -31,16 +41,6 @@ module _ (setup : Setup) where
   unfoldable pub perturbed : ℕ → Settings → ℕ → Reached
   perturbed zero θ e = record { config = θ; event = e }
   perturbed (suc more) θ e = perturbed more (stepped θ e) (e + 1)
-
-  -- the first of these neighbours is next, or else what follows the improvement
-  abbrev pub among : After → (Settings → ℕ → Next) → ℕ → Settings → List Settings → ℕ → Next
-  among after done left θ [] e = done θ e
-  among after done zero θ (φ ∷ rest) e = Finish e
-  among after done (suc left) θ (φ ∷ rest) e = Compare (Improving after left θ φ rest) φ θ e
-
-  -- what was found is compared with the best so far
-  abbrev pub returned : ℕ → Settings → Settings → ℕ → Next
-  returned more ils θ e = Compare (Returning more θ ils) θ ils e
 
   -- the improvement of a perturbed configuration begins, where m comparisons are begun
   abbrev pub next_far : ℕ → ℕ → Settings → Reached → Next
