@@ -2,7 +2,8 @@
 use Rattle.std.proofs.Common.{◌≡◌, ℕ, ◌+◌, ◌*◌, ◌≤◌, ◌<◌, ◌⊎◌, inl, inr, Bool, true, false, All, List, [], ◌∷◌, ◌++◌, Option, Some, None, IfSome, if◌then◌else◌, refl, sym, ap, subst, arith}
 use Rattle.std.proofs.lemmas.List.Elements.{All-append, All-push}
 use Rattle.std.proofs.Math.Nat.{le_refl}
-use Rattle.param_space.specs.Space.{Lists, IsSpace, defaults}
+use Rattle.param_space.specs.Space.{defaults}
+use Rattle.param_space.specs.Unconditional.{default_is_config}
 use Rattle.param_space.specs.Configurations.{IsConfig}
 use Rattle.uncapped.specs.Procedure.{Settings, Question, Incumbent}
 use Rattle.ils_face.specs.Rules.{Rules, AreRules}
@@ -178,10 +179,6 @@ basic_steady n allowed start some s = record {
   answered = λ c q r f e h. answered n allowed c q r f e;
   begins = λ c θ φ m f none some s t. begins n allowed c θ φ m f some s t;
 }
-
--- the default configuration is an allowed one
-default_is_config : (lists : Lists) → IsSpace lists → IsConfig lists (defaults lists.params)
-default_is_config lists space = ?
 
 -- under the rules of a search
 pub rules_steady : (rules : Rules) → AreRules rules → IsSteady basic (IsFit rules.max_runs (IsConfig rules.space)) rules.max_runs (IsConfig rules.space) (defaults rules.space.params) (opened rules)

@@ -181,7 +181,7 @@ impl Comparer for Basic {
     ghost coming = { coming };
 
     fn open(alloc: Global, rules: &Rules) -> Result<Basic, Memory> {
-        let incumbent = rules.space.default_config(alloc)?;
+        let incumbent = rules.space.default_config()?;
         Ok(Basic {
             max_runs: rules.max_runs,
             compared: 0,

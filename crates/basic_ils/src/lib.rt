@@ -5,3 +5,6 @@ mod basic;
 mod place;
 
 pub use basic::Basic;
+
+#[cfg(test)]
+mod tests;
