@@ -1,11 +1,11 @@
 -- An evaluation on as many places as the incumbent has runs.
-use Rattle.std.proofs.Common.{◌≡◌, ℕ, ◌≤◌, ◌<◌, Bool, true, false, not, ◌&&◌, List, [], ◌∷◌, ◌++◌, Option, Some, None, nat_le, nat_lt, ◌==◌, bytes_eq, if◌then◌else◌, refl, sym, ◌∙◌, ap, subst, arith, max, eq-eqb}
+use Rattle.std.proofs.Common.{◌≡◌, ℕ, ◌≤◌, Bool, true, false, not, ◌&&◌, Option, Some, None, nat_lt, bytes_eq, if◌then◌else◌, refl, arith, max, eq-eqb}
 use Rattle.std.proofs.lemmas.Slice.Eq.{bytes_eq-Decides}
 use Rattle.std.proofs.lemmas.Bool.{le-ltb}
 use Rattle.std.proofs.Math.Bool.{and-false, and-true}
 use Rattle.std.proofs.Math.Nat.{le_refl}
 use Rattle.uncapped.specs.Procedure.{Settings, Sums, PlainState, Goes, Ends, Aborted, goes_on, give, becomes, when}
-use Rattle.uncapped.specs.Evaluation.{after_ask, after_win, counted, measure, evaluate, overtakes, beats, is_below}
+use Rattle.uncapped.specs.Evaluation.{after_ask, after_win, counted, measure, evaluate, overtakes, beats}
 use Rattle.basic_ils.specs.State.{measured, won_where}
 
 -- ---- counts

@@ -1,5 +1,5 @@
 -- With the replies of total costs BasicILS does what the procedure does.
-use Rattle.std.proofs.Common.{◌≡◌, ℕ, ◌+◌, ◌≤◌, ◌<◌, Bool, true, false, not, ◌&&◌, List, [], ◌∷◌, ◌++◌, map, length, Option, Some, None, IfSome, nat_le, nat_lt, bytes_eq, if◌then◌else◌, refl, sym, ◌∙◌, ap, subst, arith, inl, inr}
+use Rattle.std.proofs.Common.{◌≡◌, ℕ, ◌≤◌, ◌<◌, Bool, true, false, not, List, [], Option, Some, None, IfSome, nat_le, nat_lt, bytes_eq, if◌then◌else◌, refl, sym, ◌∙◌, ap, arith, inl, inr}
 use Rattle.std.proofs.lemmas.List.{append-nil, length_push}
 use Rattle.std.proofs.lemmas.Bool.{le-ltb, leb-false, ltb-false, and_cases, not-false}
 use Rattle.std.proofs.lemmas.Slice.Eq.{bytes_eq-Decides}
@@ -8,20 +8,20 @@ use Rattle.std.proofs.Math.Nat.{le_refl}
 use Rattle.objective.specs.Costs.{Table}
 use Rattle.param_space.specs.Space.{defaults}
 use Rattle.param_space.specs.Configurations.{IsConfig}
-use Rattle.uncapped.specs.Procedure.{Settings, Sums, Question, Incumbent, PlainState, Goes, Ends, Aborted, Procedure, goes_on, ◌>>=◌, give}
+use Rattle.uncapped.specs.Procedure.{Settings, Sums, Question, Incumbent, PlainState, Goes, Ends, Aborted}
 use Rattle.uncapped.specs.Setup.{Setup}
-use Rattle.uncapped.specs.Evaluation.{after_ask, after_entry, counted, measure, evaluate, better_basic}
-use Rattle.uncapped.specs.Uncapped.{opening_basic, at_first, or_nothing}
+use Rattle.uncapped.specs.Evaluation.{after_ask, after_entry, measure, evaluate, better_basic}
+use Rattle.uncapped.specs.Uncapped.{opening_basic}
 use Rattle.ils_face.specs.Rules.{Rules, AreRules}
 use Rattle.ils_face.specs.Setups.{setup_of, setup_of-numbers, SetupOf}
 use Rattle.ils_face.specs.Shown.{sums_under}
 use Rattle.ils_face.specs.Replies.{up_to, cost_asked}
 use Rattle.ils_face.specs.declared.asks.Reply.{Reply}
 use Rattle.ils_face.specs.declared.asks.Reply.TheVariants.{Exact, Exceeds}
-use Rattle.ils_frame.specs.Comparing.{Phase, Ready, Asking, Decided, question_in, decision_in, Advanced, Unasked, GoesOn, Starts, Keeps, last_of, numbered, opened_state}
-use Rattle.basic_ils.specs.State.{Place, Opening, Opened, Second, First, Compared, State, phase_at, place_after, is_better, entry, entry_where, added_at, newest, measured, won_where, replied_at, coming_at, coming, basic, opened, IsFit, IsFresh, IsKnown, Stands, StandsAt}
+use Rattle.ils_frame.specs.Comparing.{question_in, decision_in, Advanced, GoesOn, Keeps, last_of}
+use Rattle.basic_ils.specs.State.{Place, Opening, Opened, Second, First, Compared, State, phase_at, is_better, entry, entry_where, newest, measured, won_where, coming_at, coming, basic, opened, IsFit, IsFresh, IsKnown, Stands, StandsAt}
 use Rattle.basic_ils.specs.Steady.{at_question}
-use Rattle.basic_ils.specs.Evaluations.{counted_most, counted_top, counted_itself, measure-known, measure-unknown, evaluate-known, evaluate-unknown}
+use Rattle.basic_ils.specs.Evaluations.{counted_most, counted_top, counted_itself, evaluate-known, evaluate-unknown}
 
 -- ---- one evaluation
 
@@ -45,11 +45,12 @@ module _ (n : ℕ) (sums : Sums) (last : Incumbent) (s : PlainState) where
       at_either : (b : Bool) → is_better last θ x ≡ b → (newest last (entry_where b (entry n last θ x))).sum ≤ x
       at_either true w = le_refl x
       at_either false w = elim (and_cases (not (bytes_eq θ last.config)) (nat_lt x last.sum) w) [
-          inl t ↦ (let same : θ ≡ last.config = (bytes_eq-Decides θ last.config).0 (not-false (bytes_eq θ last.config) t) in
-              let o : Some x ≡ Some last.sum = sym e ∙ ap (λ φ. sums φ n) (same ∙ sym i) ∙ k.sum in
-              let p : x ≡ last.sum = cc in
-              omega (arith, p))
-        | inr t ↦ ltb-false x last.sum t ]
+        | inl t ↦ (let same : θ ≡ last.config = (bytes_eq-Decides θ last.config).0 (not-false (bytes_eq θ last.config) t) in
+            let o : Some x ≡ Some last.sum = sym e ∙ ap (λ φ. sums φ n) (same ∙ sym i) ∙ k.sum in
+            let p : x ≡ last.sum = cc in
+            omega (arith, p))
+        | inr t ↦ ltb-false x last.sum t
+      ]
 
 -- a cost above a bound that the incumbent keeps is no better
 not_better : (last : Incumbent) (θ : Settings) (bound x : ℕ) → last.sum ≤ bound → nat_le x bound ≡ false → is_better last θ x ≡ false
@@ -238,7 +239,7 @@ ended_at setup sums n incumbent (Compared won) s b e = let t : won ≡ b = cc in
 -- with the replies of total costs
 pub basic_keeps : (n : ℕ) (allowed : Settings → Type 0) (start : Settings) (setup : Setup) (sums : Sums) → setup.max_runs ≡ n → setup.start ≡ start → ((θ : Settings) → sums θ 0 ≡ Some 0)
     → Keeps basic (IsFit n allowed) (Stands start sums) (coming setup sums) (better_basic setup sums) (opening_basic setup sums) setup sums
-        (record { max_runs = n; last = record { compared = 0; runs = 0; sum = 0; config = start }; place = Opening; entries = [] })
+    (record { max_runs = n; last = record { compared = 0; runs = 0; sum = 0; config = start }; place = Opening; entries = [] })
 basic_keeps n allowed start setup sums m b zero = record {
   opened = record { incumbent = b; compared = refl; place = record { counts = λ φ. refl; config = refl; runs = refl; sum = refl } };
   opens = refl;

@@ -1,5 +1,5 @@
 -- How far BasicILS is with a comparison, what it asks for, and what a reply does (Hutter et al., JAIR 36).
-use Rattle.std.specs.Prelude.{ℕ, ◌≡◌, ◌≤◌, Bool, true, false, not, ◌&&◌, All, List, [], ◌∷◌, ◌++◌, Option, None, Some, nat_le, nat_lt, bytes_eq, if◌then◌else◌}
+use Rattle.std.specs.Prelude.{ℕ, ◌≡◌, ◌≤◌, Bool, true, false, not, ◌&&◌, All, List, [], ◌∷◌, ◌++◌, Option, None, Some, nat_le, nat_lt, bytes_eq}
 use Rattle.param_space.specs.Space.{defaults}
 use Rattle.uncapped.specs.Procedure.{Settings, Sums, Incumbent, PlainState, Procedure, ◌>>=◌, give}
 use Rattle.uncapped.specs.Setup.{Setup}

@@ -1,5 +1,5 @@
 -- BasicILS keeps what a comparer promises whatever fitting replies come.
-use Rattle.std.proofs.Common.{◌≡◌, ℕ, ◌+◌, ◌*◌, ◌≤◌, ◌<◌, ◌⊎◌, inl, inr, Bool, true, false, All, List, [], ◌∷◌, ◌++◌, Option, Some, None, IfSome, if◌then◌else◌, refl, sym, ap, subst, arith}
+use Rattle.std.proofs.Common.{◌≡◌, ℕ, ◌≤◌, ◌<◌, ◌⊎◌, inl, inr, Bool, true, false, [], ◌∷◌, Some, None, IfSome, refl, sym, subst, arith}
 use Rattle.std.proofs.lemmas.List.Elements.{All-append, All-push}
 use Rattle.std.proofs.Math.Nat.{le_refl}
 use Rattle.param_space.specs.Space.{defaults}
@@ -10,7 +10,7 @@ use Rattle.ils_face.specs.Rules.{Rules, AreRules}
 use Rattle.ils_face.specs.declared.asks.Reply.{Reply}
 use Rattle.ils_face.specs.declared.asks.Reply.TheVariants.{Exact, Exceeds}
 use Rattle.ils_frame.specs.Comparing.{Phase, Ready, Asking, Decided, question_in, SameIncumbent, NewIncumbent, Answered, Begun, InRange, IsSteady}
-use Rattle.basic_ils.specs.State.{Place, Opening, Opened, Second, First, Compared, State, phase_at, place_after, evaluated, is_better, is_renewed, entry, entry_where, added_at, newest, left_at, basic, opened, IsPlaceFit, AreAllowed, IsFit}
+use Rattle.basic_ils.specs.State.{Place, Opening, Opened, Second, First, Compared, State, phase_at, place_after, evaluated, is_renewed, entry, entry_where, added_at, newest, left_at, basic, opened, IsPlaceFit, AreAllowed, IsFit}
 
 -- ---- questions
 

@@ -1,6 +1,6 @@
 -- A comparison as it is held in memory, and its state.
-use Rattle.std.specs.Prelude.{ℕ, ◌≡◌, [], Option}
-use Rattle.uncapped.specs.Procedure.{Settings, Question}
+use Rattle.std.specs.Prelude.{ℕ, ◌≡◌, []}
+use Rattle.uncapped.specs.Procedure.{Settings}
 use Rattle.ils_face.specs.Replies.{ask_for}
 use Rattle.ils_face.specs.declared.asks.Ask.{Ask}
 use Rattle.ils_face.specs.declared.asks.Ask.TheVariants as ask

@@ -13,13 +13,18 @@ use std::marker::Model;
 /// Compares two configurations by their total costs over all `max_runs` pairs.
 #[derive(Drop)]
 pub struct Basic {
+    /// The pairs of each evaluation.
     max_runs: u32,
+    /// The number of the present comparison, from 1.
     compared: u32,
     incumbent: Config,
+    /// The incumbent's runs, and their total cost.
     runs: u32,
     sum: Sum,
+    /// The open ask, or the end where nothing is asked.
     asked: Ask,
     place: Place,
+    /// The incumbents so far, oldest first.
     entries: Vec<Entry>,
 }
 
@@ -34,6 +39,7 @@ impl Model for Basic {
     ghost invariant = { λ b. IsAskOf b.max_runs b.incumbent b.asked (place_seen b.asked b.place) };
 }
 
+/// Whether two configurations have the same value numbers.
 fn same_values(left: &[u16], right: &[u16]) -> bool
     ensures { result ≡ bytes_eq left.now right.now }
 {
@@ -70,15 +76,15 @@ impl Basic {
         ensures ok { OnOk result (self.new ≡ record self.old { last = entry self.old.max_runs self.old.last (evaluated self.old.last.config self.old.place) sum.0; entries = self.old.entries ++ entry self.old.max_runs self.old.last (evaluated self.old.last.config self.old.place) sum.0 ∷ [] }) }
         ensures err { OnErr result (self.new ≡ self.old) }
     {
-        let config = self.evaluated().copy()?;
-        let incumbent = config.copy()?;
-        self.entries.reserve(1)?;
-        self.entries.push_reserved(Entry {
+        let incumbent = self.evaluated().copy()?;
+        let entry = Entry {
             compared: self.compared,
             runs: self.max_runs,
             sum,
-            config,
-        });
+            config: incumbent.copy()?,
+        };
+        self.entries.reserve(1)?;
+        self.entries.push_reserved(entry);
         self.incumbent = incumbent;
         self.runs = self.max_runs;
         self.sum = sum;
@@ -111,6 +117,7 @@ impl Basic {
     }
 }
 
+/// The same ask.
 fn copy_ask(ask: &Ask) -> Result<Ask, Memory>
     ensures { IfOk result (λ a. a ≡ ask.now) }
 {
@@ -128,6 +135,7 @@ fn copy_ask(ask: &Ask) -> Result<Ask, Memory>
     }
 }
 
+/// The same place.
 fn copy_place(place: &Place) -> Result<Place, Memory>
     ensures { IfOk result (λ p. p ≡ place.now) }
 {
@@ -142,6 +150,7 @@ fn copy_place(place: &Place) -> Result<Place, Memory>
     }
 }
 
+/// The same entries, by the list's own allocator.
 fn copy_entries(entries: &Vec<Entry>) -> Result<Vec<Entry>, Memory>
     ensures { IfOk result (λ es. es.items ≡ entries.now.items) }
 {
