@@ -63,12 +63,12 @@ module _ {S : Type 0} (parts : Parts S) (fit : S → Type 0) (setup : Setup) (al
       no_further = omega arith;
       incumbent = same (parts.last c)
     }
-  begun c k (Compare pending θ φ e) d s b = at_either (compared c == setup.budget) refl
+  begun c k (Compare purpose θ φ e) d s b = at_either (compared c == setup.budget) refl
     where
       next_one : Bool → Machine S
       next_one over = if over
-          then record { comparer = c; pending = pending; event = e; over = true }
-          else record { comparer = parts.begun c θ φ (compared c + 1); pending = pending; event = e; over = false }
+          then record { comparer = c; pending = purpose; event = e; over = true }
+          else record { comparer = parts.begun c θ φ (compared c + 1); pending = purpose; event = e; over = false }
       smaller : (more less l x : ℕ) → more ≡ suc less → l ≤ 8 * setup.max_runs + 16 → spare parts setup less + l ≤ spare parts setup more + x
       smaller more less l x e h = rw e (omega (arith, h))
       at_either : (over : Bool) → (compared c == setup.budget) ≡ over → IsSettled c (next_one over)
@@ -97,28 +97,28 @@ module _ {S : Type 0} (parts : Parts S) (fit : S → Type 0) (setup : Setup) (al
           }
 
   -- what is kept for what follows a comparison
-  record IsKept (c : S) (pending : Pending) (e : ℕ) : Type 0 where
-    named : IsPendingAllowed allowed pending
-    spared : IsSpare setup (compared c) pending
+  record IsKept (c : S) (purpose : Pending) (e : ℕ) : Type 0 where
+    named : IsPendingAllowed allowed purpose
+    spared : IsSpare setup (compared c) purpose
     drawn : e ≤ 103 * (compared c + 1)
 
-  settled_at : (c : S) → fit c → compared c ≤ setup.budget → (pending : Pending) (e : ℕ) → IsKept c pending e → (p : Phase) → parts.phase c ≡ p → IsSettled c (settle parts setup c pending e (decision_in p))
+  settled_at : (c : S) → fit c → compared c ≤ setup.budget → (purpose : Pending) (e : ℕ) → IsKept c purpose e → (p : Phase) → parts.phase c ≡ p → IsSettled c (settle parts setup c purpose e (decision_in p))
   unfolding settle
-  settled_at c f w pending e k (Asking q) t = record {
+  settled_at c f w purpose e k (Asking q) t = record {
       fitting = record { stays_fit = f; within = w; asks = ap is_asking t; named = k.named; spared = λ o. k.spared; spent = λ o. not_both o; drawn = λ o. k.drawn };
       same_entries = refl;
       no_further = omega arith;
       incumbent = same (parts.last c)
     }
-  settled_at c f w pending e k Ready t = begun c (record { is_fit = f; within = w; asks_nothing = ap is_asking t }) (next setup (compared c) pending false e)
-      (next-allowed allowed setup draws (compared c) pending false e k.named) (next-spare setup (compared c) w pending false e k.spared)
-      (next-drawn setup (compared c) (103 * (compared c + 2)) pending false e (let d = k.drawn in omega (arith, d, few_steps)))
-  settled_at c f w pending e k (Decided b) t = begun c (record { is_fit = f; within = w; asks_nothing = ap is_asking t }) (next setup (compared c) pending b e)
-      (next-allowed allowed setup draws (compared c) pending b e k.named) (next-spare setup (compared c) w pending b e k.spared)
-      (next-drawn setup (compared c) (103 * (compared c + 2)) pending b e (let d = k.drawn in omega (arith, d, few_steps)))
+  settled_at c f w purpose e k Ready t = begun c (record { is_fit = f; within = w; asks_nothing = ap is_asking t }) (next setup (compared c) purpose false e)
+      (next-allowed allowed setup draws (compared c) purpose false e k.named) (next-spare setup (compared c) w purpose false e k.spared)
+      (next-drawn setup (compared c) (103 * (compared c + 2)) purpose false e (let d = k.drawn in omega (arith, d, few_steps)))
+  settled_at c f w purpose e k (Decided b) t = begun c (record { is_fit = f; within = w; asks_nothing = ap is_asking t }) (next setup (compared c) purpose b e)
+      (next-allowed allowed setup draws (compared c) purpose b e k.named) (next-spare setup (compared c) w purpose b e k.spared)
+      (next-drawn setup (compared c) (103 * (compared c + 2)) purpose b e (let d = k.drawn in omega (arith, d, few_steps)))
 
-  settled : (c : S) → fit c → compared c ≤ setup.budget → (pending : Pending) (e : ℕ) → IsKept c pending e → IsSettled c (settle parts setup c pending e (decision_in (parts.phase c)))
-  settled c f w pending e k = settled_at c f w pending e k (parts.phase c) refl
+  settled : (c : S) → fit c → compared c ≤ setup.budget → (purpose : Pending) (e : ℕ) → IsKept c purpose e → IsSettled c (settle parts setup c purpose e (decision_in (parts.phase c)))
+  settled c f w purpose e k = settled_at c f w purpose e k (parts.phase c) refl
 
   pub opened-settled : IsSettled first (opened parts setup first)
   opened-settled = settled first steady.opened (let z : compared first ≡ 0 = ap (λ i. i.compared) steady.nothing_yet in omega (arith, z)) Opening 0 (record { named = tt; spared = tt; drawn = omega arith })

@@ -35,7 +35,7 @@ module _ (allowed : Settings → Type 0) where
 
   -- the next comparison is of allowed configurations
   abbrev pub IsNextAllowed : Next → Type 0
-  IsNextAllowed (Compare pending θ φ e) = IsPendingAllowed pending × allowed θ × allowed φ
+  IsNextAllowed (Compare purpose θ φ e) = IsPendingAllowed purpose × allowed θ × allowed φ
   IsNextAllowed (Finish e) = Unit {0}
 
   chosen : (b : Bool) (θ φ : Settings) → allowed θ → allowed φ → allowed (if b then θ else φ)
@@ -77,7 +77,7 @@ module _ (allowed : Settings → Type 0) where
     tried-allowed m zero current e a = among-allowed First (next_after setup m First) tt (after-allowed m First tt) (setup.budget - m) current (ordered setup current e) (e + 1) a (draws.around e current a)
     tried-allowed m (suc n) current e a = ((draws.random e, a), draws.random e, a)
 
-    pub next-allowed : (m : ℕ) (pending : Pending) (won : Bool) (e : ℕ) → IsPendingAllowed pending → IsNextAllowed (next setup m pending won e)
+    pub next-allowed : (m : ℕ) (purpose : Pending) (won : Bool) (e : ℕ) → IsPendingAllowed purpose → IsNextAllowed (next setup m purpose won e)
     next-allowed m Opening won e n = tried-allowed m setup.initial setup.start e draws.start
     next-allowed m (Trying more θ current) won e n = tried-allowed m more (if won then θ else current) e (chosen won θ current n.0 n.1)
     next-allowed m (Improving after left θ φ rest) true e n = among-allowed after (next_after setup m after) n.0 (after-allowed m after n.0) left φ (ordered setup φ e) (e + 1) n.2 (draws.around e φ n.2)

@@ -25,7 +25,7 @@ module _ (setup : Setup) (better : Settings → Settings → Procedure Bool) whe
   perturbs (suc n) θ s = perturbs n (stepped setup θ s.event) (at_event s (s.event + 1))
 
   anywhere : (n : Next) (s : PlainState) (e : ℕ) → run_next setup better n (at_event s e) ≡ run_next setup better n s
-  anywhere (Compare pending θ φ e') s e = refl
+  anywhere (Compare purpose θ φ e') s e = refl
   anywhere (Finish e') s e = refl
 
   amongs_turn : (more : ℕ) (ils : Settings) (left : ℕ) (θ : Settings) (around : List Settings) (s : PlainState)
@@ -72,7 +72,7 @@ module _ (setup : Setup) (better : Settings → Settings → Procedure Bool) whe
   tries (suc n) current s = bind_assoc (compare setup better (setup.random s.event) current (at_event s (s.event + 1))) _ _
 
   -- what follows the present comparison is the next one with all that follows it
-  pub nexts : (pending : Pending) (won : Bool) (s : PlainState) → following setup better pending won s ≡ run_next setup better (next setup s.compared pending won s.event) s
+  pub nexts : (purpose : Pending) (won : Bool) (s : PlainState) → following setup better purpose won s ≡ run_next setup better (next setup s.compared purpose won s.event) s
   nexts Opening won s = tries setup.initial setup.start s
   nexts (Trying more θ current) won s = tries more (if won then θ else current) s
   nexts (Improving after left θ φ rest) true s = amongs s.compared after left φ (ordered setup φ s.event) (at_event s (s.event + 1)) refl ∙ anywhere (among after (next_after setup s.compared after) left φ (ordered setup φ s.event) (s.event + 1)) s (s.event + 1)

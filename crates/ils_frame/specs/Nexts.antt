@@ -112,5 +112,5 @@ module _ (setup : Setup) where
 
     -- the next comparison with all that follows it
     abbrev pub run_next : Next → Procedure (Unit {0})
-    run_next (Compare pending θ φ e) = λ s. (compare setup better θ φ >>= following pending) (record s { event = e })
+    run_next (Compare purpose θ φ e) = λ s. (compare setup better θ φ >>= following purpose) (record s { event = e })
     run_next (Finish e) = λ s. Ends (record s { event = e }) Finished

@@ -23,7 +23,7 @@ module _ (setup : Setup) where
 
   -- a next comparison leaves enough turns, and the end comes with the budget
   abbrev pub IsNextSpare : ℕ → Next → Type 0
-  IsNextSpare m (Compare pending θ φ e) = IsSpare (m + 1) pending
+  IsNextSpare m (Compare purpose θ φ e) = IsSpare (m + 1) purpose
   IsNextSpare m (Finish e) = m ≡ setup.budget
 
   later : (m : ℕ) (after : After) → IsAfterSpare m after → IsAfterSpare (m + 1) after
@@ -53,7 +53,7 @@ module _ (setup : Setup) where
     tried-spare zero current e = among-spare First (next_after setup m First) tt (after-spare First tt) (setup.budget - m) refl current (ordered setup current e) (e + 1)
     tried-spare (suc n) current e = tt
 
-    pub next-spare : (pending : Pending) (won : Bool) (e : ℕ) → IsSpare m pending → IsNextSpare m (next setup m pending won e)
+    pub next-spare : (purpose : Pending) (won : Bool) (e : ℕ) → IsSpare m purpose → IsNextSpare m (next setup m purpose won e)
     next-spare Opening won e s = tried-spare setup.initial setup.start e
     next-spare (Trying more θ current) won e s = tried-spare more (if won then θ else current) e
     next-spare (Improving after left θ φ rest) true e s = among-spare after (next_after setup m after) s.1 (after-spare after s.1) left s.0 φ (ordered setup φ e) (e + 1)
@@ -68,7 +68,7 @@ module _ (setup : Setup) where
 
   -- the draws up to the next comparison have numbers below this one
   abbrev pub IsDrawnBy : ℕ → Next → Type 0
-  IsDrawnBy most (Compare pending θ φ e) = e ≤ most
+  IsDrawnBy most (Compare purpose θ φ e) = e ≤ most
   IsDrawnBy most (Finish e) = e ≤ most
 
   pub perturbed-event : (n : ℕ) (θ : Settings) (e : ℕ) → (perturbed setup n θ e).event ≡ n + e
@@ -98,7 +98,7 @@ module _ (setup : Setup) where
     tried-drawn zero current e h = among-drawn First (next_after setup m First) (setup.budget - m) current (ordered setup current e) (e + 1) (λ θ. after-drawn First θ (e + 1) (omega (arith, h))) (omega (arith, h))
     tried-drawn (suc n) current e h = omega (arith, h)
 
-    pub next-drawn : (pending : Pending) (won : Bool) (e : ℕ) → setup.strength + e + 3 ≤ most → IsDrawnBy most (next setup m pending won e)
+    pub next-drawn : (purpose : Pending) (won : Bool) (e : ℕ) → setup.strength + e + 3 ≤ most → IsDrawnBy most (next setup m purpose won e)
     next-drawn Opening won e h = tried-drawn setup.initial setup.start e (omega (arith, h))
     next-drawn (Trying more θ current) won e h = tried-drawn more (if won then θ else current) e (omega (arith, h))
     next-drawn (Improving after left θ φ rest) true e h = among-drawn after (next_after setup m after) left φ (ordered setup φ e) (e + 1) (λ θ. after-drawn after θ (e + 1) (omega (arith, h))) (omega (arith, h))

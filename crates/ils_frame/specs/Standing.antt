@@ -37,12 +37,12 @@ module _ {S : Type 0} (parts : Parts S) (fit : S → Type 0) (stands : S → Pla
   begins : (c : S) (s : PlainState) → fit c → stands c s → question_in (parts.phase c) ≡ None → (n : Next)
       → run_next setup better n s ≡ coming_of (begin parts setup c n) (begin_state parts setup c n s)
   begins c s f h none (Finish e) = refl
-  begins c s f h none (Compare pending θ φ e) = at_either ((parts.last c).compared == setup.budget) refl
+  begins c s f h none (Compare purpose θ φ e) = at_either ((parts.last c).compared == setup.budget) refl
     where
       machine : Bool → Machine S
       machine over = if over
-          then record { comparer = c; pending = pending; event = e; over = true }
-          else record { comparer = parts.begun c θ φ ((parts.last c).compared + 1); pending = pending; event = e; over = false }
+          then record { comparer = c; pending = purpose; event = e; over = true }
+          else record { comparer = parts.begun c θ φ ((parts.last c).compared + 1); pending = purpose; event = e; over = false }
       moved : Bool → PlainState
       moved over = if over then at_event s e else parts.started c θ φ ((parts.last c).compared + 1) (at_event s e)
       number : s.compared ≡ (parts.last c).compared
@@ -50,32 +50,32 @@ module _ {S : Type 0} (parts : Parts S) (fit : S → Type 0) (stands : S → Pla
       started : Starts parts stands coming better c θ φ ((parts.last c).compared + 1) (at_event s e)
       started = keeps.begins c (at_event s e) θ φ ((parts.last c).compared + 1) f (keeps.redrawn c s e h) none
       at_either : (over : Bool) → ((parts.last c).compared == setup.budget) ≡ over
-          → (compare setup better θ φ >>= following setup better pending) (at_event s e) ≡ coming_of (machine over) (moved over)
-      at_either true t = ap (λ a. goes_on a (following setup better pending)) (compares-not setup better θ φ (at_event s e) (ap (λ n. n == setup.budget) number ∙ t))
-      at_either false t = ap (λ a. goes_on a (following setup better pending))
+          → (compare setup better θ φ >>= following setup better purpose) (at_event s e) ≡ coming_of (machine over) (moved over)
+      at_either true t = ap (λ a. goes_on a (following setup better purpose)) (compares-not setup better θ φ (at_event s e) (ap (λ n. n == setup.budget) number ∙ t))
+      at_either false t = ap (λ a. goes_on a (following setup better purpose))
           (compares setup better θ φ (at_event s e) (ap (λ n. n == setup.budget) number ∙ t)
           ∙ ap (λ n. better θ φ (record (at_event s e) { compared = n + 1 })) number ∙ started.same)
 
   -- where a comparison was decided, the next one begins
-  settles_at : (c : S) (s : PlainState) → fit c → stands c s → (pending : Pending) (p : Phase) → parts.phase c ≡ p
-      → (coming c >>= following setup better pending) s ≡ coming_of (settle parts setup c pending s.event (decision_in p)) (settle_state parts setup c pending s.event (decision_in p) s)
+  settles_at : (c : S) (s : PlainState) → fit c → stands c s → (purpose : Pending) (p : Phase) → parts.phase c ≡ p
+      → (coming c >>= following setup better purpose) s ≡ coming_of (settle parts setup c purpose s.event (decision_in p)) (settle_state parts setup c purpose s.event (decision_in p) s)
   unfolding settle settle_state
-  settles_at c s f h pending (Asking q) e = refl
-  settles_at c s f h pending Ready e =
-      ap (λ a. goes_on a (following setup better pending)) (keeps.ended c s false (ap decision_in e))
-      ∙ nexts setup better pending false s
-      ∙ ap (λ m. run_next setup better (next setup m pending false s.event) s) (same_number c s f h)
-      ∙ begins c s f h (ap question_in e) (next setup (parts.last c).compared pending false s.event)
-  settles_at c s f h pending (Decided b) e =
-      ap (λ a. goes_on a (following setup better pending)) (keeps.ended c s b (ap decision_in e))
-      ∙ nexts setup better pending b s
-      ∙ ap (λ m. run_next setup better (next setup m pending b s.event) s) (same_number c s f h)
-      ∙ begins c s f h (ap question_in e) (next setup (parts.last c).compared pending b s.event)
+  settles_at c s f h purpose (Asking q) e = refl
+  settles_at c s f h purpose Ready e =
+      ap (λ a. goes_on a (following setup better purpose)) (keeps.ended c s false (ap decision_in e))
+      ∙ nexts setup better purpose false s
+      ∙ ap (λ m. run_next setup better (next setup m purpose false s.event) s) (same_number c s f h)
+      ∙ begins c s f h (ap question_in e) (next setup (parts.last c).compared purpose false s.event)
+  settles_at c s f h purpose (Decided b) e =
+      ap (λ a. goes_on a (following setup better purpose)) (keeps.ended c s b (ap decision_in e))
+      ∙ nexts setup better purpose b s
+      ∙ ap (λ m. run_next setup better (next setup m purpose b s.event) s) (same_number c s f h)
+      ∙ begins c s f h (ap question_in e) (next setup (parts.last c).compared purpose b s.event)
 
-  pub settles : (c : S) (s : PlainState) → fit c → stands c s → (pending : Pending) (e : ℕ) → s.event ≡ e
-      → (coming c >>= following setup better pending) s ≡ coming_of (settle parts setup c pending e (decision_in (parts.phase c))) (settle_state parts setup c pending e (decision_in (parts.phase c)) s)
-  settles c s f h pending e k = subst (λ n. (coming c >>= following setup better pending) s ≡ coming_of (settle parts setup c pending n (decision_in (parts.phase c))) (settle_state parts setup c pending n (decision_in (parts.phase c)) s)) k
-      (settles_at c s f h pending (parts.phase c) refl)
+  pub settles : (c : S) (s : PlainState) → fit c → stands c s → (purpose : Pending) (e : ℕ) → s.event ≡ e
+      → (coming c >>= following setup better purpose) s ≡ coming_of (settle parts setup c purpose e (decision_in (parts.phase c))) (settle_state parts setup c purpose e (decision_in (parts.phase c)) s)
+  settles c s f h purpose e k = subst (λ n. (coming c >>= following setup better purpose) s ≡ coming_of (settle parts setup c purpose n (decision_in (parts.phase c))) (settle_state parts setup c purpose n (decision_in (parts.phase c)) s)) k
+      (settles_at c s f h purpose (parts.phase c) refl)
 
   -- what a settled machine stands for: nothing was asked or added, and the next draw has its number
   pub record StandsFor (s : PlainState) (f : Machine S) (t : PlainState) : Type 0 where
@@ -86,12 +86,12 @@ module _ {S : Type 0} (parts : Parts S) (fit : S → Type 0) (stands : S → Pla
 
   begin_stands : (c : S) (s : PlainState) → fit c → stands c s → question_in (parts.phase c) ≡ None → (n : Next) → StandsFor s (begin parts setup c n) (begin_state parts setup c n s)
   begin_stands c s f h none (Finish e) = record { stays = keeps.redrawn c s e h; event = λ o. refl; asks = refl; entries = refl }
-  begin_stands c s f h none (Compare pending θ φ e) = at_either ((parts.last c).compared == setup.budget)
+  begin_stands c s f h none (Compare purpose θ φ e) = at_either ((parts.last c).compared == setup.budget)
     where
       machine : Bool → Machine S
       machine over = if over
-          then record { comparer = c; pending = pending; event = e; over = true }
-          else record { comparer = parts.begun c θ φ ((parts.last c).compared + 1); pending = pending; event = e; over = false }
+          then record { comparer = c; pending = purpose; event = e; over = true }
+          else record { comparer = parts.begun c θ φ ((parts.last c).compared + 1); pending = purpose; event = e; over = false }
       moved : Bool → PlainState
       moved over = if over then at_event s e else parts.started c θ φ ((parts.last c).compared + 1) (at_event s e)
       started : Starts parts stands coming better c θ φ ((parts.last c).compared + 1) (at_event s e)
@@ -100,16 +100,16 @@ module _ {S : Type 0} (parts : Parts S) (fit : S → Type 0) (stands : S → Pla
       at_either true = record { stays = keeps.redrawn c s e h; event = λ o. refl; asks = refl; entries = refl }
       at_either false = record { stays = started.stays; event = λ o. started.unasked.event; asks = started.unasked.asks; entries = started.unasked.entries }
 
-  settle_stands_at : (c : S) (s : PlainState) → fit c → stands c s → (pending : Pending) (e : ℕ) → s.event ≡ e → (p : Phase) → parts.phase c ≡ p
-      → StandsFor s (settle parts setup c pending e (decision_in p)) (settle_state parts setup c pending e (decision_in p) s)
+  settle_stands_at : (c : S) (s : PlainState) → fit c → stands c s → (purpose : Pending) (e : ℕ) → s.event ≡ e → (p : Phase) → parts.phase c ≡ p
+      → StandsFor s (settle parts setup c purpose e (decision_in p)) (settle_state parts setup c purpose e (decision_in p) s)
   unfolding settle settle_state
-  settle_stands_at c s f h pending e k (Asking q) t = record { stays = h; event = λ o. k; asks = refl; entries = refl }
-  settle_stands_at c s f h pending e k Ready t = begin_stands c s f h (ap question_in t) (next setup (parts.last c).compared pending false e)
-  settle_stands_at c s f h pending e k (Decided b) t = begin_stands c s f h (ap question_in t) (next setup (parts.last c).compared pending b e)
+  settle_stands_at c s f h purpose e k (Asking q) t = record { stays = h; event = λ o. k; asks = refl; entries = refl }
+  settle_stands_at c s f h purpose e k Ready t = begin_stands c s f h (ap question_in t) (next setup (parts.last c).compared purpose false e)
+  settle_stands_at c s f h purpose e k (Decided b) t = begin_stands c s f h (ap question_in t) (next setup (parts.last c).compared purpose b e)
 
-  pub settle_stands : (c : S) (s : PlainState) → fit c → stands c s → (pending : Pending) (e : ℕ) → s.event ≡ e
-      → StandsFor s (settle parts setup c pending e (decision_in (parts.phase c))) (settle_state parts setup c pending e (decision_in (parts.phase c)) s)
-  settle_stands c s f h pending e k = settle_stands_at c s f h pending e k (parts.phase c) refl
+  pub settle_stands : (c : S) (s : PlainState) → fit c → stands c s → (purpose : Pending) (e : ℕ) → s.event ≡ e
+      → StandsFor s (settle parts setup c purpose e (decision_in (parts.phase c))) (settle_state parts setup c purpose e (decision_in (parts.phase c)) s)
+  settle_stands c s f h purpose e k = settle_stands_at c s f h purpose e k (parts.phase c) refl
 
   module _ (allowed : Settings → Type 0) (draws : DrawsAllowed allowed setup) (few_steps : setup.strength ≤ 100) (steady : IsSteady parts fit setup.max_runs allowed setup.start first)
       (fitting : (q : Question) (x : ℕ) → Fits (asking q.config q.places q.bound) (up_to x q.bound)) where

@@ -2,6 +2,7 @@
 #![tactic(auto)]
 
 mod comparer;
+mod drawing;
 mod pending;
 
 pub use comparer::Comparer;

@@ -4,7 +4,7 @@
 
 ghost use Rattle.std.specs.Prelude.{◌≡◌, ◌<◌, ◌≤◌, ◌++◌, ◌∷◌, [], IfOk, OnOk, length};
 ghost use Rattle.std.specs.List.{filter};
-ghost use Rattle.param_space.specs.Space.{Belongs};
+ghost use Rattle.param_space.specs.Space.{Belongs, IsSpace};
 ghost use Rattle.param_space.specs.Configurations.{is_allowed as allowed, IsConfig};
 ghost use Rattle.neighbourhood.specs.Neighbours.{value_count as count_of_values, exchanged, exchanges, neighbours_of};
 
@@ -14,7 +14,8 @@ use std::alloc::Global;
 
 /// How many parameters the space has.
 fn param_count(space: &Space) -> u16
-    ensures { result ≡ length space.now.params }
+    ensures value { result ≡ length space.now.params }
+    ensures space { IsSpace space.now }
 {
     space.params().len() as u16
 }
@@ -74,13 +75,10 @@ fn push_exchanges(
 /// The neighbours of a configuration: the allowed configurations that come from giving one
 /// active parameter another value and putting each parameter that is inactive then at its
 /// default; by parameter and then by value number. The one error is want of memory.
-pub fn neighbours(
-    alloc: Global,
-    space: &Space,
-    config: &Config,
-) -> Result<Vec<Config>, Memory>
+pub fn neighbours(alloc: Global, space: &Space, config: &Config) -> Result<Vec<Config>, Memory>
     requires { IsConfig space.now config.now }
-    ensures { IfOk result (λ v. v.items ≡ neighbours_of space.now config.now) }
+    ensures value { IfOk result (λ v. v.items ≡ neighbours_of space.now config.now) }
+    ensures few { IfOk result (λ v. length v.items ≤ 65536) }
 {
     let mut found = Vec::new(alloc);
     for param in 0..param_count(space) {

@@ -1,5 +1,5 @@
 //! Draws.
-ghost use Rattle.std.specs.Prelude.{ℕ, ◌≡◌, ◌<◌, ◌≤◌, ◌^◌, IfOk};
+ghost use Rattle.std.specs.Prelude.{ℕ, All, ◌≡◌, ◌<◌, ◌≤◌, ◌^◌, IfOk};
 ghost use Rattle.seeded_order.specs.Draws.{generator_at, word_of, order_of, one_of as one_number_of, coin_of, random_config_of};
 ghost use Rattle.param_space.specs.Configurations.{IsConfig};
 
@@ -14,7 +14,7 @@ use std::marker::Model;
 /// How many configurations are drawn before the default is taken.
 const ATTEMPTS: u32 = 1000;
 
-/// The draws of a seed. Contracts see it as the seed.
+/// The draws of a seed. Contracts see it as the seed. Streams are numbered below 2^62.
 #[derive(Clone, Copy, Debug)]
 pub struct Draws {
     seed: u32,
@@ -54,11 +54,13 @@ impl Draws {
         generator.advance(u64::from(k));
         generator.next_word()
     }
+
     /// The numbers below `n` in the order of the stream's words: the number with the
     /// least word first, ties by the number.
     pub fn order(&self, alloc: Global, stream: u64, n: u32) -> Result<Vec<u32>, Memory>
         requires { stream < 2 ^ 62 }
-        ensures { IfOk result (λ v. v.items ≡ order_of self.now stream n) }
+        ensures value { IfOk result (λ v. v.items ≡ order_of self.now stream n) }
+        ensures below { IfOk result (λ v. All (λ i. i < n) v.items) }
     {
         let mut generator = self.generator(stream);
         let mut pairs = Vec::new(alloc);

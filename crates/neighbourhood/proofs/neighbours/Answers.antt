@@ -1,6 +1,7 @@
-use Rattle.std.proofs.Common.{◌≡◌, ◌++◌, ◌∙◌, arith, rules, sym, ap, length}
+use Rattle.std.proofs.Common.{◌≡◌, ◌∙◌, arith, ap, length}
 use Rattle.std.proofs.lemmas.Grind.{common_steps}
 use Rattle.neighbourhood.specs.Neighbours.{neighbours_of}
+use Rattle.neighbourhood.specs.Few.{few_neighbours}
 use Rattle.neighbourhood.proofs.Found.{by_param, by_param-active, by_param-inactive}
 use Rattle.neighbourhood.proofs.neighbours.Goals as goal
 use Rattle.neighbourhood.proofs.neighbours.Goals.{then-is_active+in_ok-push_exchanges, else-is_active}
@@ -14,4 +15,10 @@ loop-param-preserved c =
 
 pub returns : goal.returns
 unfolding neighbours_of
-returns c = c.loop-param.invariant ∙ ap (by_param c.args.space.now c.args.config.now) (omega arith)
+returns c =
+    let space = c.args.space.now in
+    let value : c.loop-param.found.items ≡ neighbours_of space c.args.config.now = c.loop-param.invariant ∙ ap (by_param space c.args.config.now) (omega arith) in
+    record {
+      value = value;
+      few = let few = few_neighbours space c.param_count-param-end.ensures.space c.args.config.now in omega (arith, few, ap length value);
+    }
