@@ -11,3 +11,4 @@ pub mod Following
 pub mod Promising
 pub mod Drawing
 pub mod Upcoming
+pub mod Answering

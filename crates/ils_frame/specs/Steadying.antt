@@ -97,7 +97,7 @@ module _ {S : Type 0} (parts : Parts S) (fit : S → Type 0) (rules : Rules) (se
         | inr n ↦ inr (inl (was_replied (ask_for (question_in (parts.phase f.comparer))) a.question r end (asks_here (parts.phase f.comparer) a.question a.here)
             (then_new parts fit setup (IsConfig rules.space) draws few_steps first steady a.question r (parts.last g.comparer) end n s))) ] ]
 
-  first_fitting : Fitting (opened parts setup first)
+  pub first_fitting : Fitting (opened parts setup first)
   first_fitting = (opened-settled parts fit setup (IsConfig rules.space) draws few_steps first steady).fitting
 
   is_ask : (p : Phase) → ((q : Question) → p ≡ Asking q → InRange setup.max_runs (IsConfig rules.space) q) → IsAsk rules (ask_for (question_in p))
