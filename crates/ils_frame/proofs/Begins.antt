@@ -20,7 +20,7 @@ begun_so {S} parts rules c d purpose θ φ e left over h l o =
   where
     at_either : (b : Bool) → ◌≡◌ {A = Machine S} (record { comparer = (if b then c else parts.begun c θ φ ((parts.last c).compared + 1)); pending = purpose; event = e; over = not (not b) })
         (if b
-          then record { comparer = c; pending = purpose; event = e; over = true }
-          else record { comparer = parts.begun c θ φ ((parts.last c).compared + 1); pending = purpose; event = e; over = false })
+        then record { comparer = c; pending = purpose; event = e; over = true }
+        else record { comparer = parts.begun c θ φ ((parts.last c).compared + 1); pending = purpose; event = e; over = false })
     at_either true = refl
     at_either false = refl

@@ -84,7 +84,7 @@ module _ {S : Type 0} (parts : Parts S) (first : S) (rules : Rules) where
           allowed = k.named;
           drawn = let d : f.event ≤ 103 * ((parts.last f.comparer).compared + 1) = k.drawn going in let w : (parts.last f.comparer).compared ≤ (setup_of rules).budget = k.within in let e : (setup_of rules).budget ≡ rules.budget = (setup_of-numbers rules).budget in let b : rules.budget ≤ 100000 = are.budget_in_range in omega (arith, d, w, e, b);
           within = let w : (parts.last f.comparer).compared ≤ (setup_of rules).budget = k.within in let b : (setup_of rules).budget ≡ rules.budget = (setup_of-numbers rules).budget in omega (arith, w, b);
-          going = going
+          going = going;
         }
 
     pub compared-kept : (f : Machine S) (rs : List Reply) (r : Reply) → f ≡ machine_after rs → AreFitting shown_after rs → Fits (ask_for (question_in (parts.phase f.comparer))) r → (parts.last (parts.after f.comparer r)).compared ≡ (parts.last f.comparer).compared

@@ -96,12 +96,7 @@ impl<C: Comparer> Search for Ils<C> {
                     course.event,
                 )?;
                 self.comparer.answer(reply)?;
-                begin(
-                    &mut self.comparer,
-                    &mut self.course,
-                    &self.rules,
-                    upcoming,
-                );
+                begin(&mut self.comparer, &mut self.course, &self.rules, upcoming);
             }
         }
         self.replies.push_reserved(reply);

@@ -21,7 +21,7 @@ returns g c =
     let here : is_asking (g.C.Comparer.parts.phase c.args.comparer.now) ≡ false = search rules in
     let asks : is_asking (g.C.Comparer.parts.phase first) ≡ false = ap (λ d. is_asking (g.C.Comparer.parts.phase d)) (sym c.requires.opened) ∙ here in
     opens-next g.C.Comparer.parts first c.args.rules.now _ asks
-      (c.begin.ensures
-        ∙ ap (begin g.C.Comparer.parts (setup_of c.args.rules.now) c.args.comparer.now) (c.in_ok-upcoming.ensures
-          ∙ ap (λ m. next (setup_of c.args.rules.now) m Opening false 0) c.compared-compared.ensures)
-        ∙ ap (λ d. begin g.C.Comparer.parts (setup_of c.args.rules.now) d (next (setup_of c.args.rules.now) (g.C.Comparer.parts.last d).compared Opening false 0)) c.requires.opened)
+    (c.begin.ensures
+    ∙ ap (begin g.C.Comparer.parts (setup_of c.args.rules.now) c.args.comparer.now) (c.in_ok-upcoming.ensures
+    ∙ ap (λ m. next (setup_of c.args.rules.now) m Opening false 0) c.compared-compared.ensures)
+    ∙ ap (λ d. begin g.C.Comparer.parts (setup_of c.args.rules.now) d (next (setup_of c.args.rules.now) (g.C.Comparer.parts.last d).compared Opening false 0)) c.requires.opened)
