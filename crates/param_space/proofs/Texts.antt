@@ -6,7 +6,7 @@ use Rattle.std.proofs.lemmas.List.{get_or_read}
 use Rattle.param_space.specs.declared.lists.Param.{Param}
 use Rattle.param_space.specs.Space.{Belongs}
 use Rattle.param_space.specs.Settings.{named_values, setting_text, settings_text}
-use Rattle.param_space.proofs.Belonging.{length-Belongs, read_value_in_range}
+use Rattle.param_space.specs.Belonging.{length-Belongs, read_value_in_range}
 
 -- a parameter's name and the value with this number
 abbrev pub named : Param → ℕ → List ℕ × List ℕ

@@ -3,7 +3,6 @@ ghost use Rattle.std.specs.Prelude.{◌≡◌, IfOk};
 
 use objective::Memory;
 use plain_text::{Items, Text};
-use std::alloc::Global;
 
 /// A parameter with its values. Values are numbered from 0.
 #[derive(Drop)]
@@ -18,10 +17,10 @@ pub struct Param {
 
 impl Param {
     /// The same parameter.
-    pub fn copy(&self, alloc: Global) -> Result<Param, Memory>
+    pub fn copy(&self) -> Result<Param, Memory>
         ensures { IfOk result (λ p. p ≡ self.now) }
     {
-        let mut values = Vec::new(alloc);
+        let mut values = Vec::new(*self.values.allocator());
         for value in self.values.as_slice() {
             values.push(value.copy()?)?;
         }

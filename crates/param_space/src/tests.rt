@@ -72,11 +72,24 @@ fn at(part: Part, place: u32, what: SpaceWhat) -> Option<SpaceFault> {
 }
 
 fn settings(alloc: Global) -> Result<Vec<u8>, Fail> {
-    let space = space_of_x(alloc)?.copy(alloc)?;
+    let space = space_of_x(alloc)?.copy()?;
     let mut out = b"to ".to_vec(alloc)?;
-    space.push_settings(alloc, &space.default_config(alloc)?, &mut out)?;
-    space.push_settings(alloc, &Config::new([1].to_vec(alloc)?), &mut out)?;
+    space.push_settings(&space.default_config()?, &mut out)?;
+    space.push_settings(&Config::new([1].to_vec(alloc)?), &mut out)?;
     Ok(out)
+}
+
+#[test]
+fn tells_what_is_active(rt: HostRuntime) -> Result<(), Fail> {
+    let alloc = rt.alloc();
+    let space = space_of_x(alloc)?;
+    let mut config = Config::new([1].to_vec(alloc)?);
+    assert!(rt; space.is_active(&config, 0));
+    assert!(rt; space.is_canonical(&config));
+    assert!(rt; space.is_allowed(&config));
+    space.settle(&mut config);
+    assert_eq!(rt; config.values(), [1].as_slice());
+    Ok(())
 }
 
 #[test]

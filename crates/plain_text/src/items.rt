@@ -1,6 +1,7 @@
 //! A list of values that contracts see as a list.
 ghost use Rattle.std.specs.Prelude.{◌≡◌};
 
+use std::alloc::Global;
 use std::marker::Model;
 
 /// A list that contracts see as the list of its values. It keeps its allocator.
@@ -30,5 +31,10 @@ impl<T> Items<T> {
         ensures { result.now ≡ self.now }
     {
         self.inner.as_slice()
+    }
+
+    /// The allocator that the list keeps.
+    pub fn allocator(&self) -> &Global {
+        self.inner.allocator()
     }
 }

@@ -1,7 +1,7 @@
 use Rattle.std.proofs.Common.{◌∙◌, ◌++◌, ap, take, arith, take_all}
 use Rattle.std.specs.Prelude.{codes}
 use Rattle.param_space.specs.Settings.{named_values, setting_text, settings_text}
-use Rattle.param_space.proofs.Belonging.{length-Belongs, read_value_in_range}
+use Rattle.param_space.specs.Belonging.{length-Belongs, read_value_in_range}
 use Rattle.param_space.proofs.Texts.{text_first, text_later}
 use Rattle.param_space.proofs.settings.made_settings.Goals as goal
 use Rattle.param_space.proofs.settings.made_settings.Goals.{then-i-gt0+in_ok-push, else-i-gt0}

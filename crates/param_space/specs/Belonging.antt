@@ -1,0 +1,62 @@
+-- Which configurations belong to a space.
+use Rattle.std.proofs.Common.{◌≡◌, ◌<◌, ◌+◌, ◌++◌, ℕ, zero, suc, Bool, true, false, not, ◌&&◌, nat_lt, nat_le, bytes_eq, List, [], ◌∷◌, Option, Some, None, length, get_or, refl, sym, ap, subst, ◌∙◌, arith}
+use Rattle.std.specs.List.{list_any, list_all}
+use Rattle.plain_text.specs.Words.{is_word}
+use Rattle.std.proofs.lemmas.Bool.Decides.{nat_tests}
+use Rattle.param_space.specs.declared.lists.Param.{Param}
+use Rattle.param_space.specs.declared.lists.SpaceWhat.{SpaceWhat}
+use Rattle.param_space.specs.declared.lists.SpaceWhat.TheVariants.{TooMany, BadWord, DoubleName, NoValues, DoubleValue, BadDefault}
+use Rattle.param_space.specs.declared.lists.SpaceFault.{SpaceFault}
+use Rattle.param_space.specs.Space.{all_differ, first_broken, param_fault, or_later, params_fault, space_fault, defaults, Belongs}
+
+-- where no rule is broken, the last holds too
+last_holds : (a b c d e f : Bool) → first_broken ((a, TooMany) ∷ (b, BadWord) ∷ (c, DoubleName) ∷ (d, NoValues) ∷ (e, DoubleValue) ∷ (f, BadDefault) ∷ []) ≡ None → f ≡ true
+last_holds true true true true true true h = refl
+last_holds true true true true true false h = absurd (cc)
+last_holds true true true true false f h = absurd (cc)
+last_holds true true true false e f h = absurd (cc)
+last_holds true true false d e f h = absurd (cc)
+last_holds true false c d e f h = absurd (cc)
+last_holds false b c d e f h = absurd (cc)
+
+-- the default of a parameter without a fault is one of its values
+default_is_value : (earlier : List (List ℕ)) (place : ℕ) (p : Param) → param_fault earlier place p ≡ None → p.default < length p.values
+default_is_value earlier place p h =
+    let below : nat_lt p.default (length p.values) ≡ true = last_holds (nat_lt place 256 && nat_le (length p.values) 256) (is_word p.name && list_all is_word p.values) (not (list_any (bytes_eq p.name) earlier)) (nat_lt 0 (length p.values)) (all_differ p.values) (nat_lt p.default (length p.values)) h in
+    grind (arith, nat_tests, below)
+
+-- without a fault at a place and later there is none
+none_here : (place : ℕ) (what : Option SpaceWhat) (later : Option SpaceFault) → or_later place what later ≡ None → (what ≡ None) × (later ≡ None)
+none_here place None later h = (refl, h)
+none_here place (Some what) later h = absurd (cc)
+
+defaults_belong : (params : List Param) (earlier : List (List ℕ)) (place : ℕ) → params_fault earlier place params ≡ None → Belongs params (defaults params)
+defaults_belong [] earlier place h = tt
+defaults_belong (p ∷ later) earlier place h =
+    let none = none_here place (param_fault earlier place p) (params_fault (earlier ++ p.name ∷ []) (place + 1) later) h in
+    (default_is_value earlier place p none.0, defaults_belong later (earlier ++ p.name ∷ []) (place + 1) none.1)
+
+-- the defaults of a space belong to it
+pub Belongs-defaults : (params : List Param) → space_fault params ≡ None → Belongs params (defaults params)
+Belongs-defaults [] h = absurd (cc)
+Belongs-defaults (p ∷ later) h = defaults_belong (p ∷ later) [] 0 h
+
+-- a configuration has as many value numbers as there are parameters
+pub length-Belongs : (params : List Param) (values : List ℕ) → Belongs params values → length values ≡ length params
+length-Belongs [] [] h = refl
+length-Belongs [] (v ∷ vs) h = absurd h
+length-Belongs (p ∷ ps) [] h = absurd h
+length-Belongs (p ∷ ps) (v ∷ vs) h = let more = length-Belongs ps vs h.1 in cc
+
+-- each of them is below the parameter's number of values
+value_in_range : (params : List Param) (values : List ℕ) (i : ℕ) (d : Param) → Belongs params values → i < length params → get_or values i 0 < length (get_or params i d).values
+value_in_range [] values i d h lt = absurd (omega arith)
+value_in_range (p ∷ ps) [] i d h lt = absurd h
+value_in_range (p ∷ ps) (v ∷ vs) zero d h lt = h.0
+value_in_range (p ∷ ps) (v ∷ vs) (suc i) d h lt = value_in_range ps vs i d h.1 (omega arith)
+
+-- the same of the parameter that a loop reads
+pub read_value_in_range : (params : List Param) (values : List ℕ) (i : ℕ) (p : Param) (texts : List (List ℕ)) → Belongs params values → i < length params → p ≡ get_or params i p → texts ≡ p.values → get_or values i 0 < length texts
+read_value_in_range params values i p texts h lt is e =
+    let fits = value_in_range params values i p h lt in
+    subst (λ n. get_or values i 0 < n) (sym (ap length (e ∙ ap (λ q. q.values) is))) fits
