@@ -40,11 +40,11 @@ impl Model for Rules {
 
 impl Rules {
     /// The same rules.
-    pub fn copy(&self, alloc: std::alloc::Global) -> Result<Rules, Memory>
+    pub fn copy(&self) -> Result<Rules, Memory>
         ensures { IfOk result (λ r. r ≡ self.now) }
     {
         Ok(Rules {
-            space: self.space.copy(alloc)?,
+            space: self.space.copy()?,
             seed: self.seed,
             max_runs: self.max_runs,
             budget: self.budget,
