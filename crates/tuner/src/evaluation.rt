@@ -101,7 +101,7 @@ pub(crate) fn evaluate<R: Wait, S: Spawner>(
     ensures fault { IfFailed result (λ place. Rose (S.faults spawner.old) (S.faults spawner.new)) }
     ensures failed_run { IfFailed result (λ place. S.failed_run spawner.new ≡ Some (run_at problem.now config.now place)) }
 {
-    let _ = &problem.rules; // their type keeps the number of pairs in range
+    let _ = &problem.rules.max_runs; // its type keeps it in range
     let mut sum = Sum(0);
     for done in 0..n {
         match cost_at(rt, alloc, problem, config, done + 1, spawner) {
