@@ -1,5 +1,6 @@
 -- The lines that are printed.
-use Rattle.std.specs.Prelude.{ℕ, List, [], ◌∷◌, ◌++◌, map, codes}
+use Rattle.std.specs.Prelude.{ℕ, List, ◌++◌, map, codes}
+use Rattle.std.specs.List.{flat_map}
 use Rattle.std.specs.Fmt.{decimal}
 use Rattle.plain_text.specs.Decimals.{seconds}
 use Rattle.param_space.specs.declared.lists.Param.{Param}
@@ -19,8 +20,7 @@ entry_line params entry =
 
 -- the lines of the entries, oldest first
 abbrev pub entry_lines : List Param → List Incumbent → List ℕ
-entry_lines params [] = []
-entry_lines params (entry ∷ later) = entry_line params entry ++ entry_lines params later
+entry_lines params entries = flat_map (entry_line params) entries
 
 -- the last line of a tuning that ended
 abbrev pub end_line : List Param → Incumbent → List ℕ
