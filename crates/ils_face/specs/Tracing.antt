@@ -1,5 +1,5 @@
 -- A search that is answered by total costs follows the procedure's run step for step: how it begins, goes on and ends.
-use Rattle.std.specs.Prelude.{ℕ, zero, suc, ◌+◌, ◌≤◌, ◌<◌, ◌≡◌, ◌++◌, true, false, List, [], ◌∷◌, Option, Some, None, IsSome, IfSome, IsSomeAnd, map, take, length, slice_get, get_or, refl}
+use Rattle.std.specs.Prelude.{ℕ, ◌+◌, ◌≤◌, ◌<◌, ◌≡◌, ◌++◌, true, false, List, [], ◌∷◌, Option, Some, None, IsSome, IfSome, IsSomeAnd, map, take, length, slice_get, refl}
 use Rattle.std.proofs.Common.{sym, ap, ◌∙◌, subst, inl, inr, arith}
 use Rattle.std.proofs.lemmas.Bool.{cases_lt}
 use Rattle.std.proofs.lemmas.List.{take_more, map-append, length_push}
@@ -9,7 +9,7 @@ use Rattle.uncapped.specs.Uncapped.{Run}
 use Rattle.ils_face.specs.declared.asks.Ask.{Ask}
 use Rattle.ils_face.specs.declared.asks.Ask.TheVariants.{Full, Versus, End as Over}
 use Rattle.ils_face.specs.declared.asks.Reply.{Reply}
-use Rattle.ils_face.specs.Replies.{asking, ask_for, ask_at, cost_asked, reply_to, replies_to, replied}
+use Rattle.ils_face.specs.Replies.{asking, ask_for, cost_asked, reply_to, replies_to, replied}
 use Rattle.ils_face.specs.Shown.{View, Follows, ShowsEnd, answered}
 
 -- the question that an ask is of; there is none at the end

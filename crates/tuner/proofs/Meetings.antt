@@ -1,5 +1,5 @@
 -- What is known of a search at its present ask, and once that is met.
-use Rattle.std.proofs.Common.{ℕ, ◌≡◌, ◌<◌, Bool, false, Result, Ok, Err, List, [], ◌∷◌, ◌++◌, Option, Some, refl, sym, ap, subst, ◌∙◌}
+use Rattle.std.proofs.Common.{◌≡◌, ◌<◌, Bool, false, Result, Ok, Err, List, [], ◌∷◌, ◌++◌, sym, subst, ◌∙◌}
 use Rattle.std.specs.Prelude.{IsSomeAnd, OnOk, is_err}
 use Rattle.objective.specs.Costs.{Table}
 use Rattle.uncapped.specs.Procedure.{Sums, Aborted}

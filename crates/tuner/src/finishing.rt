@@ -24,7 +24,12 @@ use std::alloc::Global;
 use std::sync::Wait;
 
 /// Prints the incumbents of a search that has ended, and the last line.
-fn report_end<P: Search, O: Sink>(alloc: Global, problem: &Problem, search: &P, out: &mut O) -> Status
+fn report_end<P: Search, O: Sink>(
+    alloc: Global,
+    problem: &Problem,
+    search: &P,
+    out: &mut O,
+) -> Status
     requires rules { P.rules_of search.now ≡ problem.now.rules }
     requires sound { IsSound problem.now.rules (P.shown problem.now.rules (P.replies_of search.now)) }
     ensures { let view = P.shown problem.now.rules (P.replies_of search.now) in Reported (taking_by O.taken O.faults O.empties out.old out.new) result Status.Ok (all_texts problem.now.rules.space.params view.entries view.last) }

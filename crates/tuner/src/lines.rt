@@ -65,7 +65,14 @@ pub(crate) fn all_lines<P: Search>(
 {
     let mut lines = entry_lines(alloc, space, search.entries())?;
     let (runs, sum) = (search.incumbent_runs(), search.incumbent_sum());
-    let last = entry_line(alloc, space, search.compared(), runs, sum, search.incumbent())?;
+    let last = entry_line(
+        alloc,
+        space,
+        search.compared(),
+        runs,
+        sum,
+        search.incumbent(),
+    )?;
     lines.push(end_line(alloc, last.as_slice())?)?;
     Ok(lines)
 }
