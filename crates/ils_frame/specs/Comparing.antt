@@ -34,6 +34,12 @@ decision_in Ready = Some false
 decision_in (Asking q) = None
 decision_in (Decided b) = Some b
 
+-- whether an ask is open
+abbrev pub is_asking : Phase → Bool
+is_asking Ready = false
+is_asking (Asking q) = true
+is_asking (Decided b) = false
+
 -- how a comparer of states S goes on, what it shows, and how the procedure's state goes on with it
 pub record Parts (S : Type 0) : Type 0 where
   pub phase : S → Phase
@@ -72,7 +78,7 @@ pub record Answered {S : Type 0} (parts : Parts S) (fit : S → Type 0) (c : S) 
 pub record Begun {S : Type 0} (parts : Parts S) (fit : S → Type 0) (max_runs : ℕ) (c d : S) (m : ℕ) : Type 0 where
   pub stays_fit : fit d
   pub few : parts.left d ≤ 8 * max_runs + 16
-  pub asks_first : decision_in (parts.phase d) ≡ None
+  pub asks_first : is_asking (parts.phase d) ≡ true
   pub same_entries : parts.entries d ≡ parts.entries c
   pub compared : (parts.last d).compared ≡ m
   pub incumbent : SameIncumbent (parts.last c) (parts.last d)

@@ -1,3 +1,14 @@
 pub mod Comparing
 pub mod Nexts
 pub mod Machine
+pub mod Nextings
+pub mod Naming
+pub mod Sparing
+pub mod Fitting
+pub mod Steadying
+pub mod Standing
+pub mod Following
+pub mod Promising
+pub mod Drawing
+pub mod Upcoming
+pub mod Answering

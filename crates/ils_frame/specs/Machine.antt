@@ -25,15 +25,15 @@ pub record History : Type 0 where
 module _ {S : Type 0} (parts : Parts S) (setup : Setup) where
   -- the next comparison begins, or the budget is used up
   abbrev pub begin : S → Next → Machine S
-  begin c (Compare pending θ φ e) = if (parts.last c).compared == setup.budget
-      then record { comparer = c; pending = pending; event = e; over = true }
-      else record { comparer = parts.begun c θ φ ((parts.last c).compared + 1); pending = pending; event = e; over = false }
+  begin c (Compare purpose θ φ e) = if (parts.last c).compared == setup.budget
+      then record { comparer = c; pending = purpose; event = e; over = true }
+      else record { comparer = parts.begun c θ φ ((parts.last c).compared + 1); pending = purpose; event = e; over = false }
   begin c (Finish e) = record { comparer = c; pending = Opening; event = e; over = true }
 
   -- where a comparison was decided, the next one begins
   unfoldable pub settle : S → Pending → ℕ → Option Bool → Machine S
-  settle c pending e None = record { comparer = c; pending = pending; event = e; over = false }
-  settle c pending e (Some won) = begin c (next setup (parts.last c).compared pending won e)
+  settle c purpose e None = record { comparer = c; pending = purpose; event = e; over = false }
+  settle c purpose e (Some won) = begin c (next setup (parts.last c).compared purpose won e)
 
   -- the machine before any reply
   abbrev pub opened : S → Machine S
@@ -66,14 +66,14 @@ module _ {S : Type 0} (parts : Parts S) (setup : Setup) where
 
   -- the state when the next comparison begins
   abbrev pub begin_state : S → Next → PlainState → PlainState
-  begin_state c (Compare pending θ φ e) s = if (parts.last c).compared == setup.budget
+  begin_state c (Compare purpose θ φ e) s = if (parts.last c).compared == setup.budget
       then record s { event = e }
       else parts.started c θ φ ((parts.last c).compared + 1) (record s { event = e })
   begin_state c (Finish e) s = record s { event = e }
 
   unfoldable pub settle_state : S → Pending → ℕ → Option Bool → PlainState → PlainState
-  settle_state c pending e None s = s
-  settle_state c pending e (Some won) s = begin_state c (next setup (parts.last c).compared pending won e) s
+  settle_state c purpose e None s = s
+  settle_state c purpose e (Some won) s = begin_state c (next setup (parts.last c).compared purpose won e) s
 
   -- the state after one more reply
   abbrev pub answered_state : Machine S → Reply → PlainState → PlainState
@@ -82,8 +82,8 @@ module _ {S : Type 0} (parts : Parts S) (setup : Setup) where
   -- what is to come of the search
   module _ (better : Settings → Settings → Procedure Bool) (coming : S → Procedure Bool) where
     abbrev pub coming_at : Bool → S → Pending → Procedure (Unit {0})
-    coming_at true c pending = stop Finished
-    coming_at false c pending = coming c >>= following setup better pending
+    coming_at true c purpose = stop Finished
+    coming_at false c purpose = coming c >>= following setup better purpose
 
     abbrev pub search_coming : Machine S → Procedure (Unit {0})
     search_coming f = coming_at f.over f.comparer f.pending

@@ -18,6 +18,16 @@ pub record Reached : Type 0 where
   pub config : Settings
   pub event : ℕ
 
+-- the first of these neighbours is next, or else what follows the improvement
+abbrev pub among : After → (Settings → ℕ → Next) → ℕ → Settings → List Settings → ℕ → Next
+among after done left θ [] e = done θ e
+among after done zero θ (φ ∷ rest) e = Finish e
+among after done (suc left) θ (φ ∷ rest) e = Compare (Improving after left θ φ rest) φ θ e
+
+-- what was found is compared with the best so far
+abbrev pub returned : ℕ → Settings → Settings → ℕ → Next
+returned more ils θ e = Compare (Returning more θ ils) θ ils e
+
 module _ (setup : Setup) where
   -- the neighbours of a configuration in the order of an event
   abbrev pub ordered : Settings → ℕ → List Settings
@@ -31,16 +41,6 @@ module _ (setup : Setup) where
   unfoldable pub perturbed : ℕ → Settings → ℕ → Reached
   perturbed zero θ e = record { config = θ; event = e }
   perturbed (suc more) θ e = perturbed more (stepped θ e) (e + 1)
-
-  -- the first of these neighbours is next, or else what follows the improvement
-  abbrev pub among : After → (Settings → ℕ → Next) → ℕ → Settings → List Settings → ℕ → Next
-  among after done left θ [] e = done θ e
-  among after done zero θ (φ ∷ rest) e = Finish e
-  among after done (suc left) θ (φ ∷ rest) e = Compare (Improving after left θ φ rest) φ θ e
-
-  -- what was found is compared with the best so far
-  abbrev pub returned : ℕ → Settings → Settings → ℕ → Next
-  returned more ils θ e = Compare (Returning more θ ils) θ ils e
 
   -- the improvement of a perturbed configuration begins, where m comparisons are begun
   abbrev pub next_far : ℕ → ℕ → Settings → Reached → Next
@@ -65,14 +65,17 @@ module _ (setup : Setup) where
   next_tried m zero current e = next_improved m current e
   next_tried m (suc more) current e = Compare (Trying more (setup.random e) current) (setup.random e) current (e + 1)
 
+  -- the coin decides whether the next turn begins at the best so far or at random
+  abbrev pub restarted : ℕ → ℕ → Settings → ℕ → Next
+  restarted m more best e = if setup.coin e then next_turn m more (setup.random (e + 1)) (e + 1 + 1) else next_turn m more best (e + 1)
+
   -- what follows when the present comparison came to this, where m comparisons are begun
   abbrev pub next : ℕ → Pending → Bool → ℕ → Next
   next m Opening won e = next_tried m setup.initial setup.start e
   next m (Trying more θ current) won e = next_tried m more (if won then θ else current) e
   next m (Improving after left θ φ rest) won e =
       if won then among after (next_after m after) left φ (ordered φ e) (e + 1) else among after (next_after m after) left θ rest e
-  next m (Returning more θ ils) won e =
-      if setup.coin e then next_turn m more (setup.random (e + 1)) (e + 1 + 1) else next_turn m more (if won then θ else ils) (e + 1)
+  next m (Returning more θ ils) won e = restarted m more (if won then θ else ils) e
 
   -- ---- the same as procedures
 
@@ -112,5 +115,5 @@ module _ (setup : Setup) where
 
     -- the next comparison with all that follows it
     abbrev pub run_next : Next → Procedure (Unit {0})
-    run_next (Compare pending θ φ e) = λ s. (compare setup better θ φ >>= following pending) (record s { event = e })
+    run_next (Compare purpose θ φ e) = λ s. (compare setup better θ φ >>= following purpose) (record s { event = e })
     run_next (Finish e) = λ s. Ends (record s { event = e }) Finished

@@ -2,7 +2,9 @@
 #![tactic(auto)]
 
 mod comparer;
+mod drawing;
 mod pending;
+mod upcoming;
 
 pub use comparer::Comparer;
 pub use pending::Stage;

@@ -1,6 +1,7 @@
 //! What the present comparison is for.
-ghost use Rattle.std.specs.Prelude.{◌≡◌, ◌∷◌, []};
+ghost use Rattle.std.specs.Prelude.{◌≡◌, ◌∷◌, [], slice_get, IfOk, IfSome, IfNone};
 
+use objective::Memory;
 use param_space::Config;
 use std::collections::VecDeque;
 use std::marker::Model;
@@ -30,6 +31,42 @@ impl Model for Neighbours {
     ghost view = { λ n. n.configs.items };
 }
 
+impl Neighbours {
+    /// These configurations. Takes no memory.
+    pub(crate) fn new(configs: VecDeque<Config>) -> Neighbours
+        ensures { result ≡ configs.items }
+    {
+        Neighbours { configs }
+    }
+
+    /// Takes the first one.
+    pub(crate) fn take_first(&mut self) -> Option<Config>
+        ensures none { IfNone result ((self.old ≡ []) × (self.new ≡ [])) }
+        ensures some { IfSome result (λ c. self.old ≡ c ∷ self.new) }
+    {
+        self.configs.pop_front()
+    }
+
+    /// The first one.
+    pub(crate) fn first(&self) -> Option<&Config>
+        ensures none { IfNone result (self.now ≡ []) }
+        ensures some { IfSome result (λ c. slice_get self.now 0 ≡ Some c.now) }
+    {
+        self.configs.front()
+    }
+
+    /// The same configurations.
+    pub(crate) fn copy(&self) -> Result<Neighbours, Memory>
+        ensures { IfOk result (λ n. n ≡ self.now) }
+    {
+        let mut configs = VecDeque::new(*self.configs.allocator());
+        for place in 0..self.configs.len() {
+            configs.push_back(self.configs[place].copy()?)?;
+        }
+        Ok(Neighbours { configs })
+    }
+}
+
 /// What follows an improvement.
 #[derive(Drop)]
 pub(crate) enum After {
@@ -42,6 +79,21 @@ pub(crate) enum After {
         /// The best so far.
         ils: Config,
     },
+}
+
+impl After {
+    /// The same.
+    pub(crate) fn copy(&self) -> Result<After, Memory>
+        ensures { IfOk result (λ a. a ≡ self.now) }
+    {
+        match self {
+            After::First => Ok(After::First),
+            After::Turn { more, ils } => Ok(After::Turn {
+                more: *more,
+                ils: ils.copy()?,
+            }),
+        }
+    }
 }
 
 /// What the present comparison is for.

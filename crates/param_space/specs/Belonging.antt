@@ -1,6 +1,6 @@
 -- Which configurations belong to a space.
-use Rattle.std.proofs.Common.{◌≡◌, ◌<◌, ◌+◌, ◌++◌, ℕ, zero, suc, Bool, true, false, not, ◌&&◌, nat_lt, nat_le, bytes_eq, List, [], ◌∷◌, Option, Some, None, length, get_or, refl, sym, ap, subst, ◌∙◌, arith}
-use Rattle.std.specs.List.{list_any, list_all}
+use Rattle.std.proofs.Common.{◌≡◌, ◌<◌, ◌≤◌, ◌+◌, ◌++◌, ℕ, zero, suc, Bool, true, false, not, ◌&&◌, nat_lt, nat_le, bytes_eq, List, [], ◌∷◌, Option, Some, None, length, get_or, refl, sym, ap, subst, ◌∙◌, arith}
+use Rattle.std.specs.List.{list_any, list_all, slice_set}
 use Rattle.plain_text.specs.Words.{is_word}
 use Rattle.std.proofs.lemmas.Bool.Decides.{nat_tests}
 use Rattle.param_space.specs.declared.lists.Param.{Param}
@@ -18,6 +18,11 @@ last_holds true true true false e f h = absurd (cc)
 last_holds true true false d e f h = absurd (cc)
 last_holds true false c d e f h = absurd (cc)
 last_holds false b c d e f h = absurd (cc)
+
+-- and so does the first
+first_holds : (a b c d e f : Bool) → first_broken ((a, TooMany) ∷ (b, BadWord) ∷ (c, DoubleName) ∷ (d, NoValues) ∷ (e, DoubleValue) ∷ (f, BadDefault) ∷ []) ≡ None → a ≡ true
+first_holds true b c d e f h = refl
+first_holds false b c d e f h = absurd (cc)
 
 -- the default of a parameter without a fault is one of its values
 default_is_value : (earlier : List (List ℕ)) (place : ℕ) (p : Param) → param_fault earlier place p ≡ None → p.default < length p.values
@@ -41,6 +46,39 @@ pub Belongs-defaults : (params : List Param) → space_fault params ≡ None →
 Belongs-defaults [] h = absurd (cc)
 Belongs-defaults (p ∷ later) h = defaults_belong (p ∷ later) [] 0 h
 
+-- a parameter without a fault stands below place 256 and has at most 256 values
+within_limits : (earlier : List (List ℕ)) (place : ℕ) (p : Param) → param_fault earlier place p ≡ None → (place < 256) × (length p.values ≤ 256)
+within_limits earlier place p h =
+    let within : (nat_lt place 256 && nat_le (length p.values) 256) ≡ true = first_holds (nat_lt place 256 && nat_le (length p.values) 256) (is_word p.name && list_all is_word p.values) (not (list_any (bytes_eq p.name) earlier)) (nat_lt 0 (length p.values)) (all_differ p.values) (nat_lt p.default (length p.values)) h in
+    grind (arith, nat_tests, within)
+
+few_from : (params : List Param) (earlier : List (List ℕ)) (place : ℕ) → params_fault earlier place params ≡ None → place ≤ 256 → place + length params ≤ 256
+few_from [] earlier place h le = omega arith
+few_from (p ∷ later) earlier place h le =
+    let none = none_here place (param_fault earlier place p) (params_fault (earlier ++ p.name ∷ []) (place + 1) later) h in
+    let here = within_limits earlier place p none.0 in
+    let more = few_from later (earlier ++ p.name ∷ []) (place + 1) none.1 (omega arith) in
+    omega arith
+
+few_values_from : (params : List Param) (earlier : List (List ℕ)) (place i : ℕ) (d : Param) → params_fault earlier place params ≡ None → i < length params → length (get_or params i d).values ≤ 256
+few_values_from [] earlier place i d h lt = absurd (omega arith)
+few_values_from (p ∷ later) earlier place zero d h lt =
+    let none = none_here place (param_fault earlier place p) (params_fault (earlier ++ p.name ∷ []) (place + 1) later) h in
+    (within_limits earlier place p none.0).1
+few_values_from (p ∷ later) earlier place (suc i) d h lt =
+    let none = none_here place (param_fault earlier place p) (params_fault (earlier ++ p.name ∷ []) (place + 1) later) h in
+    few_values_from later (earlier ++ p.name ∷ []) (place + 1) i d none.1 (omega arith)
+
+-- a space has at most 256 parameters
+pub few_params : (params : List Param) → space_fault params ≡ None → length params ≤ 256
+few_params [] h = absurd (cc)
+few_params (p ∷ later) h = let few = few_from (p ∷ later) [] 0 h (omega arith) in omega arith
+
+-- and each of them has at most 256 values
+pub few_values : (params : List Param) (i : ℕ) (d : Param) → space_fault params ≡ None → i < length params → length (get_or params i d).values ≤ 256
+few_values [] i d h lt = absurd (cc)
+few_values (p ∷ later) i d h lt = few_values_from (p ∷ later) [] 0 i d h lt
+
 -- a configuration has as many value numbers as there are parameters
 pub length-Belongs : (params : List Param) (values : List ℕ) → Belongs params values → length values ≡ length params
 length-Belongs [] [] h = refl
@@ -49,11 +87,18 @@ length-Belongs (p ∷ ps) [] h = absurd h
 length-Belongs (p ∷ ps) (v ∷ vs) h = let more = length-Belongs ps vs h.1 in cc
 
 -- each of them is below the parameter's number of values
-value_in_range : (params : List Param) (values : List ℕ) (i : ℕ) (d : Param) → Belongs params values → i < length params → get_or values i 0 < length (get_or params i d).values
+pub value_in_range : (params : List Param) (values : List ℕ) (i : ℕ) (d : Param) → Belongs params values → i < length params → get_or values i 0 < length (get_or params i d).values
 value_in_range [] values i d h lt = absurd (omega arith)
 value_in_range (p ∷ ps) [] i d h lt = absurd h
 value_in_range (p ∷ ps) (v ∷ vs) zero d h lt = h.0
 value_in_range (p ∷ ps) (v ∷ vs) (suc i) d h lt = value_in_range ps vs i d h.1 (omega arith)
+
+-- another of the parameter's values in its place makes a configuration again
+pub Belongs-set : (params : List Param) (values : List ℕ) (i v : ℕ) (d : Param) → Belongs params values → i < length params → v < length (get_or params i d).values → Belongs params (slice_set values i v)
+Belongs-set [] values i v d h lt below = absurd (omega arith)
+Belongs-set (p ∷ ps) [] i v d h lt below = absurd h
+Belongs-set (p ∷ ps) (w ∷ ws) zero v d h lt below = (below, h.1)
+Belongs-set (p ∷ ps) (w ∷ ws) (suc i) v d h lt below = (h.0, Belongs-set ps ws i v d h.1 (omega arith) below)
 
 -- the same of the parameter that a loop reads
 pub read_value_in_range : (params : List Param) (values : List ℕ) (i : ℕ) (p : Param) (texts : List (List ℕ)) → Belongs params values → i < length params → p ≡ get_or params i p → texts ≡ p.values → get_or values i 0 < length texts

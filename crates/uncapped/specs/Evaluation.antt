@@ -1,6 +1,6 @@
 -- Evaluations of configurations, and the comparisons of BasicILS and FocusedILS (Hutter et al., JAIR 36).
-use Rattle.std.specs.Prelude.{ℕ, zero, suc, ◌+◌, max, min, Bool, true, false, not, ◌&&◌, ◌||◌, ◌==◌, List, [], ◌∷◌, ◌++◌, Option, Some, None, nat_le, nat_lt, length, bytes_eq, if◌then◌else◌}
-use Rattle.uncapped.specs.Procedure.{Settings, Sums, Question, Incumbent, Addition, PlainState, Procedure, ◌>>=◌, ◌>>◌, give, state, becomes, when, known}
+use Rattle.std.specs.Prelude.{ℕ, zero, suc, ◌+◌, max, min, Bool, true, false, not, ◌&&◌, ◌||◌, ◌==◌, [], ◌∷◌, ◌++◌, Option, Some, None, nat_le, nat_lt, length, bytes_eq, if◌then◌else◌}
+use Rattle.uncapped.specs.Procedure.{Settings, Sums, PlainState, Procedure, ◌>>=◌, ◌>>◌, give, state, becomes, when, known}
 use Rattle.uncapped.specs.Setup.{Setup}
 
 -- the count of a configuration becomes at least n
@@ -90,5 +90,5 @@ better_focused setup sums θ φ = do
   if nat_le (s.counts θ) (s.counts φ) then catch_up setup sums (suc setup.max_runs) θ φ else catch_up setup sums (suc setup.max_runs) φ θ
   now ← state
   if dominates sums now θ φ
-    then (evaluate sums θ (min (now.counts θ + now.bonus) setup.max_runs) None >> becomes (λ s. record s { bonus = 0 }) >> give true)
-    else give false
+      then (evaluate sums θ (min (now.counts θ + now.bonus) setup.max_runs) None >> becomes (λ s. record s { bonus = 0 }) >> give true)
+      else give false

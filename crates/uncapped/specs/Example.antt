@@ -1,41 +1,112 @@
--- The default settings on two places that cost 3 and 4 seconds, computed.
-use Rattle.std.specs.Prelude.{zero, suc, ◌≡◌, false, [], ◌∷◌, None, refl}
+-- Small tables and setups for worked rows, and the default settings on two places that cost 3 and 4 seconds,
+-- computed.
+use Rattle.std.specs.Prelude.{ℕ, zero, suc, ◌*◌, ◌≡◌, false, List, [], ◌∷◌, Option, Some, None, refl}
 use Rattle.objective.specs.Bounds.{Bounds}
 use Rattle.objective.specs.Costs.{Table}
-use Rattle.objective.specs.declared.Factor.TheVariants.{One}
+use Rattle.objective.specs.declared.Factor.TheVariants.{One, Ten}
+use Rattle.objective.specs.declared.Outcome.{Outcome}
 use Rattle.objective.specs.declared.Outcome.TheVariants.{Solved, Abort}
 use Rattle.uncapped.specs.Totals.{total_cost}
-use Rattle.uncapped.specs.Procedure.{Finished, Aborted}
+use Rattle.uncapped.specs.Procedure.{Settings, Question, Incumbent, Addition, Finished, Aborted}
 use Rattle.uncapped.specs.Setup.{Setup}
 use Rattle.uncapped.specs.Evaluation.{measure}
 use Rattle.uncapped.specs.Searching.{search_after, try_random, improve, improve_among, search_on, perturb, compare}
 use Rattle.uncapped.specs.Uncapped.{uncapped, Basic, procedure, opening_basic}
 
+-- so many seconds, in microseconds
+abbrev pub seconds : ℕ → ℕ
+seconds n = n * 1000000
+
 abbrev pub ten_seconds : Bounds
 ten_seconds = record { cutoff = 10000000; factor = One; floor = 1 }
 
--- one parameter with one value
-abbrev pub alone : Setup
-alone = record {
-  start = 0 ∷ [];
-  max_runs = 2;
-  budget = 0;
+-- ten seconds, and a run without a solution costs a hundred
+abbrev pub ten_seconds_tenfold : Bounds
+ten_seconds_tenfold = record { cutoff = 10000000; factor = Ten; floor = 1 }
+
+-- a run that is solved after so many seconds
+abbrev pub solved : ℕ → Outcome
+solved n = Solved (record { 0 = seconds n })
+
+-- a run that asks for the end of the tuning after so many seconds
+abbrev pub aborted : ℕ → Outcome
+aborted n = Abort (record { 0 = seconds n })
+
+-- this outcome at each place
+abbrev pub always : Outcome → ℕ → Outcome
+always o place = o
+
+-- one outcome at place 1 and another at each further place
+abbrev pub then_always : Outcome → Outcome → ℕ → Outcome
+then_always o p zero = o
+then_always o p (suc zero) = o
+then_always o p (suc (suc place)) = p
+
+-- the configurations of one parameter with two values
+abbrev pub a : Settings
+a = 0 ∷ []
+
+abbrev pub b : Settings
+b = 1 ∷ []
+
+-- the outcomes of the one value and of the other, by their places
+abbrev pub of_two : (ℕ → Outcome) → (ℕ → Outcome) → Table
+of_two first second [] = first
+of_two first second (zero ∷ rest) = first
+of_two first second (suc value ∷ rest) = second
+
+-- the configuration with the other value
+abbrev pub the_other : Settings → List Settings
+the_other [] = []
+the_other (zero ∷ rest) = b ∷ []
+the_other (suc value ∷ rest) = a ∷ []
+
+-- the first of a list, where there is one
+abbrev pub the_first : List Settings → Option Settings
+the_first [] = None
+the_first (θ ∷ rest) = Some θ
+
+-- one parameter with two values, so many places and comparisons, and no restart
+abbrev pub two_values : ℕ → ℕ → Setup
+two_values places comparisons = record {
+  start = a;
+  max_runs = places;
+  budget = comparisons;
   initial = 0;
   strength = 1;
-  neighbours = λ θ. [];
+  neighbours = the_other;
   in_order = λ e θs. θs;
-  one_of = λ e θs. None;
-  random = λ e. 0 ∷ [];
+  one_of = λ e θs. the_first θs;
+  random = λ e. a;
   coin = λ e. false;
 }
 
+-- one parameter with one value
+abbrev pub one_value : ℕ → ℕ → Setup
+one_value places comparisons = record (two_values places comparisons) { neighbours = λ θ. [] }
+
+-- a total cost is asked for, whatever it comes to
+abbrev pub in_full : Settings → ℕ → Question
+in_full θ n = record { config = θ; places = n; bound = None }
+
+-- a total cost is asked for, up to so many seconds
+abbrev pub up_to : ℕ → Settings → ℕ → Question
+up_to most θ n = record { config = θ; places = n; bound = Some (seconds most) }
+
+-- an incumbent that is found in a comparison and costs so many seconds over so many runs
+abbrev pub found : ℕ → ℕ → ℕ → Settings → Incumbent
+found compared runs sum θ = record { compared = compared; runs = runs; sum = seconds sum; config = θ }
+
+-- an incumbent that is added after so many asks
+abbrev pub added : ℕ → Incumbent → Addition
+added asks incumbent = record { asks_before = asks; entry = incumbent }
+
+-- the default costs 3 and 4 seconds
 abbrev pub three_and_four : Table
-three_and_four config zero = Solved (record { 0 = 0 })
-three_and_four config (suc zero) = Solved (record { 0 = 3000000 })
-three_and_four config (suc (suc place)) = Solved (record { 0 = 4000000 })
+three_and_four θ = then_always (solved 3) (solved 4)
 
 -- one entry after one ask, and the same last line
-pub default_settings : uncapped Basic alone (total_cost ten_seconds three_and_four) ≡ record {
+pub default_settings : uncapped Basic (one_value 2 0) (total_cost ten_seconds three_and_four) ≡ record {
   end = Finished;
   asks = record { config = 0 ∷ []; places = 2; bound = None } ∷ [];
   entries = record { asks_before = 1; entry = record { compared = 0; runs = 2; sum = 7000000; config = 0 ∷ [] } } ∷ [];
@@ -45,9 +116,14 @@ unfolding uncapped procedure measure opening_basic search_after try_random impro
 default_settings = refl
 
 abbrev pub aborting : Table
-aborting config place = Abort (record { 0 = 1000000 })
+aborting θ = always (aborted 1)
 
 -- an abort ends the procedure before its first entry
-pub default_aborts : (uncapped Basic alone (total_cost ten_seconds aborting)).end ≡ Aborted
+pub default_aborts : (uncapped Basic (one_value 2 0) (total_cost ten_seconds aborting)).end ≡ Aborted
 unfolding uncapped procedure measure opening_basic search_after
 default_aborts = refl
+
+-- and so it finds nothing
+pub default_aborts_bare : (uncapped Basic (one_value 2 0) (total_cost ten_seconds aborting)).entries ≡ []
+unfolding uncapped procedure measure opening_basic search_after
+default_aborts_bare = refl

@@ -33,8 +33,8 @@ module _ (setup : Setup) (better : Settings → Settings → Procedure Bool) whe
   improve_among (suc left) θ (φ ∷ rest) = do
     won ← compare φ θ
     if won
-      then (around φ >>= improve_among left φ)
-      else improve_among left θ rest
+        then (around φ >>= improve_among left φ)
+        else improve_among left θ rest
 
   -- iterative first improvement
   unfoldable pub improve : Settings → Procedure Settings
@@ -67,8 +67,8 @@ module _ (setup : Setup) (better : Settings → Settings → Procedure Bool) whe
     won ← compare θ ils
     restart ← draw setup.coin
     if restart
-      then (draw setup.random >>= search_on turns)
-      else search_on turns (if won then θ else ils)
+        then (draw setup.random >>= search_on turns)
+        else search_on turns (if won then θ else ils)
 
   -- the whole search after an opening evaluation
   unfoldable pub search_after : Procedure (Unit {0}) → Procedure (Unit {0})

@@ -1,9 +1,9 @@
 -- The uncapped procedure: every evaluation is made in full, one run after another
 -- (ParamILS framework, Hutter et al., JAIR 36).
-use Rattle.std.specs.Prelude.{ℕ, suc, List, [], ◌∷◌, Option, Some, None}
+use Rattle.std.specs.Prelude.{ℕ, List, [], Option, Some, None}
 use Rattle.objective.specs.Bounds.{Bounds}
 use Rattle.objective.specs.Costs.{Table}
-use Rattle.uncapped.specs.Procedure.{Settings, Sums, Question, Incumbent, Addition, PlainState, End, Finished, Step, Goes, Ends, Procedure, ◌>>=◌, becomes}
+use Rattle.uncapped.specs.Procedure.{Sums, Question, Incumbent, Addition, PlainState, End, Finished, Step, Goes, Ends, Procedure, ◌>>=◌, becomes}
 use Rattle.uncapped.specs.Setup.{Setup}
 use Rattle.uncapped.specs.Evaluation.{measure, after_entry, better_basic, better_focused}
 use Rattle.uncapped.specs.Searching.{search_after}

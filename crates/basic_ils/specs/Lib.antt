@@ -1,0 +1,5 @@
+pub mod State
+pub mod View
+pub mod Steady
+pub mod Evaluations
+pub mod Keeps

@@ -1,0 +1,219 @@
+-- How far BasicILS is with a comparison, what it asks for, and what a reply does (Hutter et al., JAIR 36).
+use Rattle.std.specs.Prelude.{ℕ, ◌≡◌, ◌≤◌, Bool, true, false, not, ◌&&◌, All, List, [], ◌∷◌, ◌++◌, Option, None, Some, nat_le, nat_lt, bytes_eq}
+use Rattle.param_space.specs.Space.{defaults}
+use Rattle.uncapped.specs.Procedure.{Settings, Sums, Incumbent, PlainState, Procedure, ◌>>=◌, give}
+use Rattle.uncapped.specs.Setup.{Setup}
+use Rattle.uncapped.specs.Evaluation.{after_ask, after_entry, after_win, counted, evaluate, better_basic}
+use Rattle.uncapped.specs.Uncapped.{opening_basic}
+use Rattle.ils_face.specs.Rules.{Rules}
+use Rattle.ils_face.specs.declared.asks.Reply.{Reply}
+use Rattle.ils_face.specs.declared.asks.Reply.TheVariants.{Exact, Exceeds}
+use Rattle.ils_frame.specs.Comparing.{Phase, Ready, Asking, Decided, Parts}
+
+-- how far a comparison is
+pub data Place : Type 0 where
+  Opening : Place  -- the default configuration is to be evaluated
+  Opened : Place  -- nothing was compared yet
+  Second : (first second : Settings) → Place  -- the second one is to be evaluated
+  First : (first : Settings) → (bound : ℕ) → Place  -- then the first one, up to the second one's cost
+  Compared : Bool → Place  -- whether the first one won
+
+pub record State : Type 0 where
+  pub max_runs : ℕ  -- the places of each evaluation
+  pub last : Incumbent
+  pub place : Place
+  pub entries : List Incumbent  -- oldest first
+
+-- the evaluation that is asked for
+abbrev pub phase_at : ℕ → Settings → Place → Phase
+phase_at n incumbent Opening = Asking (record { config = incumbent; places = n; bound = None })
+phase_at n incumbent Opened = Ready
+phase_at n incumbent (Second first second) = Asking (record { config = second; places = n; bound = None })
+phase_at n incumbent (First first bound) = Asking (record { config = first; places = n; bound = Some bound })
+phase_at n incumbent (Compared won) = Decided won
+
+-- a tie is won; nothing but a cost up to the bound is replied in full
+abbrev pub place_after : Place → Reply → Place
+place_after Opening r = Opened
+place_after Opened r = Opened
+place_after (Second first second) (Exact x) = First first x.0
+place_after (Second first second) Exceeds = Compared false
+place_after (First first bound) (Exact x) = Compared true
+place_after (First first bound) Exceeds = Compared false
+place_after (Compared won) r = Compared won
+
+-- the configuration that is evaluated, or else the incumbent
+abbrev pub evaluated : Settings → Place → Settings
+evaluated incumbent Opening = incumbent
+evaluated incumbent Opened = incumbent
+evaluated incumbent (Second first second) = second
+evaluated incumbent (First first bound) = first
+evaluated incumbent (Compared won) = incumbent
+
+-- another configuration costs less than the incumbent
+abbrev pub is_better : Incumbent → Settings → ℕ → Bool
+is_better last θ x = not (bytes_eq θ last.config) && nat_lt x last.sum
+
+-- a cost makes a new incumbent: the default's, and then any that is lower
+abbrev pub is_renewed : Incumbent → Place → ℕ → Bool
+is_renewed last Opening x = true
+is_renewed last place x = is_better last (evaluated last.config place) x
+
+-- a configuration as incumbent, from the present comparison on
+abbrev pub entry : ℕ → Incumbent → Settings → ℕ → Incumbent
+entry n last θ x = record { compared = last.compared; runs = n; sum = x; config = θ }
+
+-- the entry of a new incumbent
+abbrev pub entry_where : Bool → Incumbent → List Incumbent
+entry_where true e = e ∷ []
+entry_where false e = []
+
+-- the entries that a reply adds
+abbrev pub added_at : ℕ → Incumbent → Place → Reply → List Incumbent
+added_at n last place (Exact x) = entry_where (is_renewed last place x.0) (entry n last (evaluated last.config place) x.0)
+added_at n last place Exceeds = []
+
+-- the incumbent, after these entries
+abbrev pub newest : Incumbent → List Incumbent → Incumbent
+newest last [] = last
+newest last (e ∷ more) = e
+
+-- ---- the procedure's state
+
+-- after an evaluation, whatever its cost
+abbrev pub measured : Settings → ℕ → Option ℕ → PlainState → PlainState
+measured θ n bound s = record (after_ask θ n bound s) { counts = counted s.counts θ n }
+
+-- a new incumbent, where it is one
+abbrev pub won_where : Bool → Settings → ℕ → ℕ → PlainState → PlainState
+won_where true θ n x s = after_win θ n x s
+won_where false θ n x s = s
+
+-- after the reply to an evaluation in a comparison
+abbrev pub told : ℕ → Incumbent → Settings → Reply → PlainState → PlainState
+told n last θ (Exact x) s = won_where (is_better last θ x.0) θ n x.0 s
+told n last θ Exceeds s = s
+
+-- after the reply to the opening evaluation
+abbrev pub told_first : ℕ → Settings → Reply → PlainState → PlainState
+told_first n start (Exact x) s = after_entry start n x.0 s
+told_first n start Exceeds s = s
+
+-- after a reply
+abbrev pub replied_at : ℕ → Incumbent → Place → Reply → PlainState → PlainState
+replied_at n last Opening r s = told_first n last.config r (measured last.config n None s)
+replied_at n last Opened r s = s
+replied_at n last (Second first second) r s = told n last second r (measured second n None s)
+replied_at n last (First first bound) r s = told n last first r (measured first n (Some bound) s)
+replied_at n last (Compared won) r s = s
+
+-- what is to come of the opening evaluation or of a comparison
+abbrev pub coming_at : Setup → Sums → Place → Procedure Bool
+coming_at setup sums Opening = opening_basic setup sums >>= λ _. give false
+coming_at setup sums Opened = give false
+coming_at setup sums (Second first second) = better_basic setup sums first second
+coming_at setup sums (First first bound) = evaluate sums first setup.max_runs (Some bound) >>= λ x. give (nat_le x bound)
+coming_at setup sums (Compared won) = give won
+
+abbrev pub coming : Setup → Sums → State → Procedure Bool
+coming setup sums c = coming_at setup sums c.place
+
+-- ---- the comparer
+
+-- the evaluations that are left
+abbrev pub left_at : Place → ℕ
+left_at Opening = 1
+left_at Opened = 0
+left_at (Second first second) = 2
+left_at (First first bound) = 1
+left_at (Compared won) = 0
+
+-- after a reply
+abbrev pub after : State → Reply → State
+after c r = record {
+  max_runs = c.max_runs;
+  last = newest c.last (added_at c.max_runs c.last c.place r);
+  place = place_after c.place r;
+  entries = c.entries ++ added_at c.max_runs c.last c.place r;
+}
+
+-- a comparison of this number begins
+abbrev pub begun : State → Settings → Settings → ℕ → State
+begun c θ φ m = record {
+  max_runs = c.max_runs;
+  last = record c.last { compared = m };
+  place = Second θ φ;
+  entries = c.entries;
+}
+
+abbrev pub basic : Parts State
+basic = record {
+  phase = λ c. phase_at c.max_runs c.last.config c.place;
+  last = λ c. c.last;
+  entries = λ c. c.entries;
+  after = after;
+  begun = begun;
+  added = λ c r. added_at c.max_runs c.last c.place r;
+  left = λ c. left_at c.place;
+  replied = λ c r s. replied_at c.max_runs c.last c.place r s;
+  started = λ c θ φ m s. record s { compared = m };
+}
+
+-- before any reply
+abbrev pub opened : Rules → State
+opened rules = record {
+  max_runs = rules.max_runs;
+  last = record { compared = 0; runs = 0; sum = 0; config = defaults rules.space.params };
+  place = Opening;
+  entries = [];
+}
+
+-- ---- what holds of it
+
+-- a comparison has a number from 1, and its configurations are allowed
+abbrev pub IsPlaceFit : (Settings → Type 0) → ℕ → Place → Type 0
+IsPlaceFit allowed compared Opening = compared ≡ 0
+IsPlaceFit allowed compared Opened = compared ≡ 0
+IsPlaceFit allowed compared (Second first second) = (1 ≤ compared) × allowed first × allowed second
+IsPlaceFit allowed compared (First first bound) = (1 ≤ compared) × allowed first
+IsPlaceFit allowed compared (Compared won) = 1 ≤ compared
+
+-- the configurations of all entries are allowed
+abbrev pub AreAllowed : (Settings → Type 0) → List Incumbent → Type 0
+AreAllowed allowed es = All (λ e. allowed e.config) es
+
+-- it was reached by fitting replies
+pub record IsFit (max_runs : ℕ) (allowed : Settings → Type 0) (c : State) : Type 0 where
+  pub runs : c.max_runs ≡ max_runs
+  pub some : 1 ≤ max_runs
+  pub incumbent : allowed c.last.config
+  pub place : IsPlaceFit allowed c.last.compared c.place
+  pub entries : AreAllowed allowed c.entries
+
+-- nothing was evaluated yet
+pub record IsFresh (start : Settings) (last : Incumbent) (s : PlainState) : Type 0 where
+  pub counts : (φ : Settings) → s.counts φ ≡ 0
+  pub config : last.config ≡ start
+  pub runs : last.runs ≡ 0
+  pub sum : last.sum ≡ 0
+
+-- the incumbent was evaluated on n places, and nothing on more
+pub record IsKnown (n : ℕ) (sums : Sums) (last : Incumbent) (s : PlainState) : Type 0 where
+  pub most : (φ : Settings) → s.counts φ ≤ n
+  pub top : s.counts s.incumbent ≡ n
+  pub runs : last.runs ≡ n
+  pub sum : sums s.incumbent n ≡ Some last.sum
+
+-- a bound hides no configuration that is better than the incumbent
+abbrev pub StandsAt : ℕ → Settings → Sums → Incumbent → Place → PlainState → Type 0
+StandsAt n start sums last Opening s = IsFresh start last s
+StandsAt n start sums last Opened s = IsKnown n sums last s
+StandsAt n start sums last (Second first second) s = IsKnown n sums last s
+StandsAt n start sums last (First first bound) s = IsKnown n sums last s × (last.sum ≤ bound)
+StandsAt n start sums last (Compared won) s = IsKnown n sums last s
+
+-- it stands for this state of the procedure
+pub record Stands (start : Settings) (sums : Sums) (c : State) (s : PlainState) : Type 0 where
+  pub incumbent : s.incumbent ≡ c.last.config
+  pub compared : s.compared ≡ c.last.compared
+  pub place : StandsAt c.max_runs start sums c.last c.place s

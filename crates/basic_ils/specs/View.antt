@@ -1,0 +1,34 @@
+-- A comparison as it is held in memory, and its state.
+use Rattle.std.specs.Prelude.{ℕ, ◌≡◌, []}
+use Rattle.uncapped.specs.Procedure.{Settings}
+use Rattle.ils_face.specs.Replies.{ask_for}
+use Rattle.ils_face.specs.declared.asks.Ask.{Ask}
+use Rattle.ils_face.specs.declared.asks.Ask.TheVariants as ask
+use Rattle.ils_frame.specs.Comparing.{question_in}
+use Rattle.basic_ils.specs.declared.place.Place as place
+use Rattle.basic_ils.specs.declared.place.Place.TheVariants as held
+use Rattle.basic_ils.specs.State.{Place, Opening, Opened, Second, First, Compared, phase_at}
+
+-- the configuration that is asked for
+abbrev pub config_in : Ask → Settings
+config_in (ask.Full config n) = config
+config_in (ask.Versus config n bound) = config
+config_in ask.End = []
+
+-- the bound up to which it is asked for
+abbrev pub bound_in : Ask → ℕ
+bound_in (ask.Full config n) = 0
+bound_in (ask.Versus config n bound) = bound.0
+bound_in ask.End = 0
+
+-- the place with the configuration that is asked for
+abbrev pub place_seen : Ask → place.Place → Place
+place_seen asked held.Opening = Opening
+place_seen asked held.Opened = Opened
+place_seen asked (held.Second first) = Second first (config_in asked)
+place_seen asked held.First = First (config_in asked) (bound_in asked)
+place_seen asked (held.Compared won) = Compared won
+
+-- the open ask is the one that the place wants
+abbrev pub IsAskOf : ℕ → Settings → Ask → Place → Type 0
+IsAskOf n incumbent asked place = asked ≡ ask_for (question_in (phase_at n incumbent place))

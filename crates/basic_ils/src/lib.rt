@@ -1,0 +1,10 @@
+//! The comparer of BasicILS, which compares on all pairs (Hutter et al., JAIR 36).
+#![tactic(auto)]
+
+mod basic;
+mod place;
+
+pub use basic::Basic;
+
+#[cfg(test)]
+mod tests;

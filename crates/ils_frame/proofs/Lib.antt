@@ -1,0 +1,2 @@
+pub mod Perturbing
+pub mod Turning

@@ -1,0 +1,233 @@
+-- A search over any comparer, answered by total costs, shows the asks and the entries of the procedure.
+use Rattle.std.proofs.Common.{ℕ, zero, suc, ◌≡◌, ◌+◌, ◌≤◌, ◌<◌, Bool, true, false, List, [], ◌∷◌, ◌++◌, map, filter, take, length, slice_get, Option, Some, None, IfSome, IsSome, is_some, nat_le, cond, refl, sym, ◌∙◌, ap, arith, append_assoc, length-append}
+use Rattle.std.proofs.lemmas.Bool.{leb-true, le-leb}
+use Rattle.std.proofs.lemmas.List.{append-nil, map-append}
+use Rattle.std.proofs.lemmas.List.Elements.{filter-append}
+use Rattle.uncapped.specs.Procedure.{Settings, Sums, Question, Incumbent, Addition, PlainState, Finished, Aborted, Procedure}
+use Rattle.uncapped.specs.Setup.{Setup}
+use Rattle.uncapped.specs.Uncapped.{Run, run_after, or_nothing}
+use Rattle.ils_face.specs.declared.asks.Reply.{Reply}
+use Rattle.ils_face.specs.Replies.{Fits, asking, up_to, cost_asked, reply_to}
+use Rattle.ils_frame.specs.Comparing.{Phase, Ready, Asking, Decided, is_asking, question_in, Parts, IsSteady, numbered, Keeps}
+use Rattle.ils_frame.specs.Machine.{Machine, answered, after_all, view_of, answered_state, search_coming}
+use Rattle.ils_frame.specs.Naming.{DrawsAllowed}
+use Rattle.ils_frame.specs.Fitting.{Replied, replies, not-asking}
+use Rattle.ils_frame.specs.Standing.{IsSound, Turn, turns, aborts, finishes}
+
+-- ---- entries by the number of asks before them
+
+-- the entry without its number
+abbrev pub entry_in : Addition → Incumbent
+entry_in a = a.entry
+
+-- it was added before ask k was made
+abbrev pub is_before : ℕ → Addition → Bool
+is_before k a = nat_le a.asks_before k
+
+-- all were added after more than n asks
+abbrev pub AreLater : ℕ → List Addition → Type 0
+AreLater n [] = Unit {0}
+AreLater n (a ∷ rest) = (n < a.asks_before) × AreLater n rest
+
+pub unnumbered : (n : ℕ) (new : List Incumbent) → map entry_in (numbered n new) ≡ new
+unnumbered n [] = refl
+unnumbered n (e ∷ new) = ap (λ es. e ∷ es) (unnumbered n new)
+
+pub before-all : (n k : ℕ) (new : List Incumbent) → n ≤ k → filter (is_before k) (numbered n new) ≡ numbered n new
+before-all n k [] h = refl
+before-all n k (e ∷ new) h = rw (le-leb n k h) (ap (λ es. record { asks_before = n; entry = e } ∷ es) (before-all n k new h))
+
+before-none : (n : ℕ) (late : List Addition) → AreLater n late → filter (is_before n) late ≡ []
+before-none n [] h = refl
+before-none n (a ∷ rest) h = at_either (before-none n rest h.1) (nat_le a.asks_before n) refl
+  where
+    at_either : filter (is_before n) rest ≡ [] → (b : Bool) → nat_le a.asks_before n ≡ b → (cond b (a ∷ filter (is_before n) rest) (filter (is_before n) rest)) ≡ []
+    at_either later true e = let w : a.asks_before ≤ n = leb-true a.asks_before n e in let z = h.0 in absurd (omega (arith, w, z))
+    at_either later false e = later
+
+later-numbered : (n m : ℕ) (new : List Incumbent) → n < m → AreLater n (numbered m new)
+later-numbered n m [] h = tt
+later-numbered n m (e ∷ new) h = (h, later-numbered n m new h)
+
+later-less : (n m : ℕ) (late : List Addition) → n ≤ m → AreLater m late → AreLater n late
+later-less n m [] h l = tt
+later-less n m (a ∷ rest) h l = (let z = l.0 in omega (arith, z, h), later-less n m rest h l.1)
+
+later-append : (n : ℕ) (a b : List Addition) → AreLater n a → AreLater n b → AreLater n (a ++ b)
+later-append n [] b l m = m
+later-append n (x ∷ a) b l m = (l.0, later-append n a b l.1 m)
+
+-- ---- the run from a machine on
+
+-- from the machine f on, after the state s, the run goes on with the rest
+pub record Plays {S : Type 0} (parts : Parts S) (setup : Setup) (sums : Sums) (f : Machine S) (s : PlainState) (run : Run) : Type 0 where
+  pub rest : List Question
+  pub late : List Addition
+  pub count : ℕ  -- the asks that have a reply
+  pub all_asks : run.asks ≡ s.asks ++ rest
+  pub all_entries : run.entries ≡ s.entries ++ late
+  pub later : AreLater (length s.asks) late
+  pub shown_asks : (k : ℕ) → k ≤ count → question_in (parts.phase (after_all parts setup f (map (reply_to sums) (take k rest))).comparer) ≡ slice_get rest k
+  pub shown_entries : (k : ℕ) → k ≤ count → parts.entries (after_all parts setup f (map (reply_to sums) (take k rest))).comparer ≡ parts.entries f.comparer ++ map entry_in (filter (is_before (length s.asks + k)) late)
+  pub known : (k : ℕ) → k < count → IfSome (slice_get rest k) (λ q. IsSome (cost_asked sums q))
+  pub finished : run.end ≡ Finished → (length rest ≡ count) × (parts.entries (after_all parts setup f (map (reply_to sums) rest)).comparer ≡ parts.entries f.comparer ++ map entry_in late)
+      × (parts.last (after_all parts setup f (map (reply_to sums) rest)).comparer ≡ run.last)
+  pub aborted : run.end ≡ Aborted → (length rest ≡ suc count) × IfSome (slice_get rest count) (λ q. cost_asked sums q ≡ None)
+
+not_finished : {A : Type 0} → Aborted ≡ Finished → A
+not_finished e = absurd (cc)
+
+not_aborted : {A : Type 0} → Finished ≡ Aborted → A
+not_aborted e = absurd (cc)
+
+some_known : (o : Option ℕ) (x : ℕ) → o ≡ Some x → IsSome o
+some_known o x e = ap is_some e
+
+module _ {S : Type 0} (parts : Parts S) (fit : S → Type 0) (stands : S → PlainState → Type 0) (coming : S → Procedure Bool) (better : Settings → Settings → Procedure Bool) (opening : Procedure (Unit {0}))
+    (setup : Setup) (sums : Sums) (first : S) (keeps : Keeps parts fit stands coming better opening setup sums first)
+    (allowed : Settings → Type 0) (draws : DrawsAllowed allowed setup) (few_steps : setup.strength ≤ 100) (steady : IsSteady parts fit setup.max_runs allowed setup.start first)
+    (fitting : (q : Question) (x : ℕ) → Fits (asking q.config q.places q.bound) (up_to x q.bound)) where
+  abbrev Sound : Machine S → PlainState → Type 0
+  Sound f s = IsSound parts fit stands coming better opening setup sums first keeps allowed draws few_steps steady fitting f s
+
+  abbrev PlaysFrom : Machine S → PlainState → Type 0
+  PlaysFrom f s = Plays parts setup sums f s (run_after sums (search_coming parts setup better coming f s))
+
+  asks_nothing : (f : Machine S) → question_in (parts.phase f.comparer) ≡ None → (k : ℕ) → k ≤ 0 → question_in (parts.phase (after_all parts setup f (map (reply_to sums) (take k []))).comparer) ≡ slice_get [] k
+  unfolding after_all
+  asks_nothing f none zero h = none
+  asks_nothing f none (suc k) h = absurd (omega (arith, h))
+
+  shows_same : (f : Machine S) (n k : ℕ) → k ≤ 0 → parts.entries (after_all parts setup f (map (reply_to sums) (take k []))).comparer ≡ parts.entries f.comparer ++ map entry_in (filter (is_before (n + k)) [])
+  unfolding after_all
+  shows_same f n zero h = sym (append-nil (parts.entries f.comparer))
+  shows_same f n (suc k) h = absurd (omega (arith, h))
+
+  done : (f : Machine S) (s : PlainState) → Sound f s → is_asking (parts.phase f.comparer) ≡ false → PlaysFrom f s
+  unfolding after_all
+  done f s k e = rw (finishes parts fit stands coming better opening setup sums first keeps allowed draws few_steps steady fitting f s k e) (record {
+      rest = [];
+      late = [];
+      count = 0;
+      all_asks = sym (append-nil s.asks);
+      all_entries = sym (append-nil s.entries);
+      later = tt;
+      shown_asks = asks_nothing f (not-asking (parts.phase f.comparer) e);
+      shown_entries = shows_same f (length s.asks);
+      known = λ k h. absurd (omega (arith, h));
+      finished = λ o. (refl, sym (append-nil (parts.entries f.comparer)), keeps.last f.comparer s k.stays_fitting.stays_fit k.stays);
+      aborted = λ o. not_aborted o
+    })
+
+  asks_one : (f : Machine S) (q : Question) → question_in (parts.phase f.comparer) ≡ Some q → (k : ℕ) → k ≤ 0 → question_in (parts.phase (after_all parts setup f (map (reply_to sums) (take k (q ∷ [])))).comparer) ≡ slice_get (q ∷ []) k
+  unfolding after_all
+  asks_one f q e zero h = e
+  asks_one f q e (suc k) h = absurd (omega (arith, h))
+
+  shows_none : (f : Machine S) (q : Question) (n k : ℕ) → k ≤ 0 → parts.entries (after_all parts setup f (map (reply_to sums) (take k (q ∷ [])))).comparer ≡ parts.entries f.comparer ++ map entry_in (filter (is_before (n + k)) [])
+  unfolding after_all
+  shows_none f q n zero h = sym (append-nil (parts.entries f.comparer))
+  shows_none f q n (suc k) h = absurd (omega (arith, h))
+
+  stopped : (f : Machine S) (s : PlainState) (q : Question) → Sound f s → parts.phase f.comparer ≡ Asking q → cost_asked sums q ≡ None → PlaysFrom f s
+  stopped f s q k e unknown = rw (aborts parts fit stands coming better opening setup sums first keeps allowed draws few_steps steady fitting f s q k e unknown) (record {
+      rest = q ∷ [];
+      late = [];
+      count = 0;
+      all_asks = refl;
+      all_entries = sym (append-nil s.entries);
+      later = tt;
+      shown_asks = asks_one f q (ap question_in e);
+      shown_entries = shows_none f q (length s.asks);
+      known = λ k h. absurd (omega (arith, h));
+      finished = λ o. not_finished o;
+      aborted = λ o. (refl, unknown)
+    })
+
+  module _ (f : Machine S) (s : PlainState) (q : Question) (x : ℕ) (e : parts.phase f.comparer ≡ Asking q) (known : cost_asked sums q ≡ Some x) where
+    abbrev g : Machine S
+    g = answered parts setup f (up_to x q.bound)
+
+    abbrev u : PlainState
+    u = answered_state parts setup f (up_to x q.bound) s
+
+    replied_so : reply_to sums q ≡ up_to x q.bound
+    replied_so = ap (λ o. up_to (or_nothing o) q.bound) known
+
+    -- the reply to the first ask leads to the next machine
+    on : (rs : List Reply) → after_all parts setup f (reply_to sums q ∷ rs) ≡ after_all parts setup g rs
+    unfolding after_all
+    on rs = ap (λ r. after_all parts setup (answered parts setup f r) rs) replied_so
+
+    goes_on_playing : Turn parts fit stands coming better opening setup sums first keeps allowed draws few_steps steady fitting f s q (up_to x q.bound) → PlaysFrom g u → PlaysFrom f s
+    unfolding after_all
+    goes_on_playing t p = rw t.same (record {
+        rest = q ∷ p.rest;
+        late = numbered (length s.asks + 1) new ++ p.late;
+        count = suc p.count;
+        all_asks = p.all_asks ∙ ap (λ asks. asks ++ p.rest) t.asks ∙ append_assoc s.asks (q ∷ []) p.rest;
+        all_entries = p.all_entries ∙ ap (λ es. es ++ p.late) t.entries ∙ append_assoc s.entries (numbered (length s.asks + 1) new) p.late;
+        later = later-append (length s.asks) (numbered (length s.asks + 1) new) p.late (later-numbered (length s.asks) (length s.asks + 1) new (omega arith))
+            (later-less (length s.asks) (length u.asks) p.late (let n = number in omega (arith, n)) p.later);
+        shown_asks = asks_on;
+        shown_entries = entries_on;
+        known = known_on;
+        finished = λ o. (ap suc (p.finished o).0,
+            ap (λ m. parts.entries m.comparer) (on (map (reply_to sums) p.rest)) ∙ (p.finished o).1 ∙ joined (map entry_in p.late),
+            ap (λ m. parts.last m.comparer) (on (map (reply_to sums) p.rest)) ∙ (p.finished o).2);
+        aborted = λ o. (ap suc (p.aborted o).0, (p.aborted o).1)
+      })
+      where
+        new : List Incumbent
+        new = parts.added f.comparer (up_to x q.bound)
+        number : length u.asks ≡ length s.asks + 1
+        number = ap length t.asks ∙ length-append s.asks (q ∷ [])
+        split : (es : List Incumbent) → parts.entries g.comparer ++ es ≡ parts.entries f.comparer ++ (new ++ es)
+        split es = ap (λ old. old ++ es) t.grown ∙ append_assoc (parts.entries f.comparer) new es
+        joined : (es : List Incumbent) → parts.entries g.comparer ++ map entry_in p.late ≡ parts.entries f.comparer ++ map entry_in (numbered (length s.asks + 1) new ++ p.late)
+        joined es = split (map entry_in p.late) ∙ ap (λ es. parts.entries f.comparer ++ es) (ap (λ n. n ++ map entry_in p.late) (sym (unnumbered (length s.asks + 1) new)) ∙ sym (map-append entry_in (numbered (length s.asks + 1) new) p.late))
+        asks_on : (k : ℕ) → k ≤ suc p.count → question_in (parts.phase (after_all parts setup f (map (reply_to sums) (take k (q ∷ p.rest)))).comparer) ≡ slice_get (q ∷ p.rest) k
+        asks_on zero h = ap question_in e
+        asks_on (suc k) h = ap (λ m. question_in (parts.phase m.comparer)) (on (map (reply_to sums) (take k p.rest))) ∙ p.shown_asks k (omega (arith, h))
+        -- those that were just added, and those of the rest that were added before
+        sorted : (k : ℕ) → filter (is_before (length s.asks + suc k)) (numbered (length s.asks + 1) new ++ p.late) ≡ numbered (length s.asks + 1) new ++ filter (is_before (length u.asks + k)) p.late
+        sorted k = filter-append (is_before (length s.asks + suc k)) (numbered (length s.asks + 1) new) p.late
+            ∙ ap (λ es. es ++ filter (is_before (length s.asks + suc k)) p.late) (before-all (length s.asks + 1) (length s.asks + suc k) new (omega arith))
+            ∙ ap (λ n. numbered (length s.asks + 1) new ++ filter (is_before n) p.late) (let n = number in omega (arith, n))
+        entries_on : (k : ℕ) → k ≤ suc p.count → parts.entries (after_all parts setup f (map (reply_to sums) (take k (q ∷ p.rest)))).comparer
+            ≡ parts.entries f.comparer ++ map entry_in (filter (is_before (length s.asks + k)) (numbered (length s.asks + 1) new ++ p.late))
+        entries_on zero h = sym (append-nil (parts.entries f.comparer))
+            ∙ ap (λ es. parts.entries f.comparer ++ map entry_in es) (sym (ap (λ n. filter (is_before n) (numbered (length s.asks + 1) new ++ p.late)) (omega arith)
+              ∙ before-none (length s.asks) (numbered (length s.asks + 1) new ++ p.late)
+                (later-append (length s.asks) (numbered (length s.asks + 1) new) p.late (later-numbered (length s.asks) (length s.asks + 1) new (omega arith))
+                  (later-less (length s.asks) (length u.asks) p.late (let n = number in omega (arith, n)) p.later))))
+        entries_on (suc k) h = ap (λ m. parts.entries m.comparer) (on (map (reply_to sums) (take k p.rest))) ∙ p.shown_entries k (omega (arith, h))
+            ∙ split (map entry_in (filter (is_before (length u.asks + k)) p.late))
+            ∙ ap (λ es. parts.entries f.comparer ++ es)
+              (ap (λ n. n ++ map entry_in (filter (is_before (length u.asks + k)) p.late)) (sym (unnumbered (length s.asks + 1) new))
+              ∙ sym (map-append entry_in (numbered (length s.asks + 1) new) (filter (is_before (length u.asks + k)) p.late))
+              ∙ ap (map entry_in) (sym (sorted k)))
+        known_on : (k : ℕ) → k < suc p.count → IfSome (slice_get (q ∷ p.rest) k) (λ q. IsSome (cost_asked sums q))
+        known_on zero h = some_known (cost_asked sums q) x known
+        known_on (suc k) h = p.known k (omega (arith, h))
+
+  left_of : Machine S → ℕ
+  left_of f = (view_of parts setup f).left
+
+  pub plays : (fuel : ℕ) (f : Machine S) (s : PlainState) → Sound f s → (view_of parts setup f).left < fuel → PlaysFrom f s
+  plays zero f s k h = absurd (omega (arith, h))
+  plays (suc fuel) f s k h = at_phase (λ g u. plays fuel g u) (parts.phase f.comparer) refl
+    where
+      IH : Type 0
+      IH = (g : Machine S) (u : PlainState) → Sound g u → (view_of parts setup g).left < fuel → PlaysFrom g u
+      at_cost : IH → (q : Question) → parts.phase f.comparer ≡ Asking q → (o : Option ℕ) → cost_asked sums q ≡ o → PlaysFrom f s
+      at_cost ih q e None c = stopped f s q k e c
+      at_cost ih q e (Some x) c =
+          let t : Turn parts fit stands coming better opening setup sums first keeps allowed draws few_steps steady fitting f s q (up_to x q.bound) = turns parts fit stands coming better opening setup sums first keeps allowed draws few_steps steady fitting f s q x k e c in
+          let n : Replied parts fit setup allowed draws few_steps first steady f q (up_to x q.bound) = replies parts fit setup allowed draws few_steps first steady f q (up_to x q.bound) k.stays_fitting e (fitting q x) in
+          let m : (view_of parts setup (answered parts setup f (up_to x q.bound))).left < (view_of parts setup f).left = n.falls in
+          goes_on_playing f s q x e c t (ih (answered parts setup f (up_to x q.bound)) (answered_state parts setup f (up_to x q.bound) s) t.sound (omega (arith, h, m)))
+      at_phase : IH → (p : Phase) → parts.phase f.comparer ≡ p → PlaysFrom f s
+      at_phase ih Ready e = done f s k (ap is_asking e)
+      at_phase ih (Asking q) e = at_cost ih q e (cost_asked sums q) refl
+      at_phase ih (Decided b) e = done f s k (ap is_asking e)

@@ -1,0 +1,11 @@
+use Rattle.std.proofs.Common.{arith}
+use Rattle.std.proofs.lemmas.Grind.{common_steps}
+use Rattle.param_space.specs.Belonging.{length-Belongs}
+use Rattle.neighbourhood.specs.Soundness.{Belongs-exchange}
+use Rattle.neighbourhood.proofs.push_exchange.Goals as goal
+
+pub set-requires : goal.set-requires
+set-requires c = grind (arith, common_steps, length-Belongs)
+
+pub settle-requires : goal.settle-requires
+settle-requires c = grind (arith, common_steps, Belongs-exchange)

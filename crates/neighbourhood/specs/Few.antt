@@ -1,0 +1,53 @@
+-- A configuration has at most 65,536 neighbours.
+use Rattle.std.proofs.Common.{ℕ, zero, suc, ◌+◌, ◌*◌, ◌≡◌, ◌<◌, ◌≤◌, ◌==◌, not, Bool, true, false, cond, List, [], ◌∷◌, ◌++◌, length, map, ap, arith, length-append}
+use Rattle.std.specs.Prelude.{slice_index}
+use Rattle.std.specs.List.{All, filter, flat_map, range_with_len}
+use Rattle.std.proofs.lemmas.List.{get_or-map, length-map}
+use Rattle.std.proofs.lemmas.List.Elements.{All-nil, All-head, All-tail, All-filter, All-weaker}
+use Rattle.std.proofs.lemmas.List.FromFn.{length-range_with_len}
+use Rattle.param_space.specs.declared.lists.Param.{Param}
+use Rattle.param_space.specs.Space.{Lists, IsSpace}
+use Rattle.param_space.specs.Belonging.{few_values, few_params}
+use Rattle.param_space.specs.Configurations.{is_active, is_allowed}
+use Rattle.neighbourhood.specs.Neighbours.{value_count, other_values, exchanged, exchanges, active_params, neighbours_of}
+use Rattle.neighbourhood.specs.Soundness.{no_param, range_below}
+
+-- a filter keeps no more than there is
+kept : {X : Type 0} (p : X → Bool) (xs : List X) → length (filter p xs) ≤ length xs
+kept p [] = omega arith
+kept {X} p (x ∷ xs) = at_either (kept p xs) (p x)
+  where
+    at_either : length (filter p xs) ≤ length xs → (b : Bool) → length (cond b (x ∷ filter p xs) (filter p xs)) ≤ suc (length xs)
+    at_either h true = omega (arith, h)
+    at_either h false = omega (arith, h)
+
+-- parts of at most so many elements each
+joined : {X Y : Type 0} (f : X → List Y) (most : ℕ) (xs : List X) → All (λ x. length (f x) ≤ most) xs → length (flat_map f xs) ≤ most * length xs
+joined f most [] h = omega arith
+joined f most (x ∷ xs) h =
+    let first : length (f x) ≤ most = All-head (λ x. length (f x) ≤ most) x xs h in
+    let later : length (flat_map f xs) ≤ most * length xs = joined f most xs (All-tail (λ x. length (f x) ≤ most) x xs h) in
+    omega (arith, first, later, length-append (f x) (flat_map f xs))
+
+few_exchanges : (lists : Lists) → IsSpace lists → (θ : List ℕ) (p : ℕ) → p < length lists.params → length (exchanges lists θ p) ≤ 256
+few_exchanges lists space θ p lt =
+    let count : value_count lists.params p ≡ _ = get_or-map (λ (q : Param). length q.values) lists.params p no_param 0 lt in
+    let few = few_values lists.params p no_param space.sound lt in
+    let all = length-range_with_len 0 (value_count lists.params p) in
+    let some = kept (λ v. not (v == slice_index θ p)) (range_with_len 0 (value_count lists.params p)) in
+    let same = length-map (other_values lists.params θ p) (exchanged lists θ p) in
+    omega (arith, count, few, all, some, same)
+
+-- at most 256 parameters with at most 256 values each
+pub few_neighbours : (lists : Lists) → IsSpace lists → (θ : List ℕ) → length (neighbours_of lists θ) ≤ 65536
+unfolding neighbours_of
+few_neighbours lists space θ =
+    let count : ℕ = length lists.params in
+    let below = All-filter (is_active lists θ) (λ p. p < count) (range_with_len 0 count) (range_below count 0 count (omega arith)) in
+    let each = All-weaker (λ p. p < count) (λ p. length (exchanges lists θ p) ≤ 256) (λ p less. few_exchanges lists space θ p less) (active_params lists θ) below in
+    let all = joined (exchanges lists θ) 256 (active_params lists θ) each in
+    let active = kept (is_active lists θ) (range_with_len 0 count) in
+    let numbers = length-range_with_len 0 count in
+    let few = few_params lists.params space.sound in
+    let allowed = kept (is_allowed lists) (flat_map (exchanges lists θ) (active_params lists θ)) in
+    omega (arith, all, active, numbers, few, allowed)

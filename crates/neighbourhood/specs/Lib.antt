@@ -1,0 +1,4 @@
+pub mod Neighbours
+pub mod Soundness
+pub mod Few
+pub mod Example

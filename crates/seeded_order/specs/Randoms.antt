@@ -1,0 +1,41 @@
+-- A configuration drawn at random is one of the space.
+use Rattle.std.proofs.Common.{ℕ, zero, suc, ◌<◌, ◌+◌, ◌*◌, ◌%◌, Bool, true, false, List, [], ◌∷◌, length, sym, subst, arith}
+use Rattle.std.specs.List.{All}
+use Rattle.std.proofs.lemmas.List.Elements.{All-head, All-tail}
+use Rattle.param_space.specs.declared.lists.Param.{Param}
+use Rattle.param_space.specs.Space.{Lists, IsSpace, Belongs}
+use Rattle.param_space.specs.Configurations.{is_allowed, IsConfig}
+use Rattle.param_space.specs.Unconditional.{all_settled, unconditional, default_is_config}
+use Rattle.seeded_order.specs.Draws.{word_of, values_of, attempt_of, first_allowed, random_config_of}
+use Rattle.seeded_order.specs.Values.{HasValues, All-HasValues}
+
+-- a word modulo the number of values is a value's number
+pub Belongs-values_of : (seed stream k : ℕ) (params : List Param) → All HasValues params → Belongs params (values_of seed stream k params)
+Belongs-values_of seed stream k [] h = tt
+Belongs-values_of seed stream k (p ∷ later) h =
+    let some : 0 < length p.values = (All-head HasValues p later h).some in
+    let below : word_of seed stream k % length p.values < length p.values = omega arith in
+    (below, Belongs-values_of seed stream (k + 1) later (All-tail HasValues p later h))
+
+-- each attempt is a configuration of the space
+pub attempt_is_config : (lists : Lists) → IsSpace lists → (seed stream a : ℕ) → IsConfig lists (attempt_of seed stream lists a)
+unfolding attempt_of
+attempt_is_config lists space seed stream a =
+    let values = values_of seed stream (a * length lists.params) lists.params in
+    let belongs = Belongs-values_of seed stream (a * length lists.params) lists.params (All-HasValues lists.params space.sound) in
+    subst (IsConfig lists) (sym (all_settled lists space values belongs)) (unconditional lists space values belongs)
+
+first_is_config : (lists : Lists) → IsSpace lists → (seed stream left a : ℕ) → IsConfig lists (first_allowed seed stream lists left a)
+unfolding first_allowed
+first_is_config lists space seed stream zero a = default_is_config lists space
+first_is_config lists space seed stream (suc left) a =
+    let Goal : Bool → Type 0 = λ b. IsConfig lists (elim b [ true ↦ attempt_of seed stream lists a | false ↦ first_allowed seed stream lists left (a + 1) ]) in
+    elim (is_allowed lists (attempt_of seed stream lists a)) as Goal [
+      | true ↦ attempt_is_config lists space seed stream a
+      | false ↦ first_is_config lists space seed stream left (a + 1)
+    ]
+
+-- a configuration drawn at random is an allowed canonical one of the space
+pub random_is_config : (lists : Lists) → IsSpace lists → (seed stream : ℕ) → IsConfig lists (random_config_of seed stream lists)
+unfolding random_config_of
+random_is_config lists space seed stream = first_is_config lists space seed stream 1000 0
