@@ -1,5 +1,6 @@
 //! The rules of a search.
 ghost use Rattle.std.specs.Prelude.{◌≡◌, IfOk};
+ghost use Rattle.ils_face.specs.Rules.{AreRules};
 
 use objective::{Limits, Memory};
 use param_space::Space;
@@ -41,7 +42,8 @@ impl Model for Rules {
 impl Rules {
     /// The same rules.
     pub fn copy(&self) -> Result<Rules, Memory>
-        ensures { IfOk result (λ r. r ≡ self.now) }
+        ensures same { IfOk result (λ r. r ≡ self.now) }
+        ensures ruled { AreRules self.now }
     {
         Ok(Rules {
             space: self.space.copy()?,

@@ -1,2 +1,3 @@
 pub mod Perturbing
 pub mod Turning
+pub mod Begins

@@ -51,5 +51,5 @@ turn_made rules m turns less ils best far e n drawn left around a t s d l f o b 
     let steps : rules.strength ≡ (setup_of rules).strength = sym same.strength in
     let budget : rules.budget ≡ (setup_of rules).budget = sym same.budget in
     turn_seen (setup_of rules) m less ils far e drawn a (f ∙ ap (λ k. (perturbed (setup_of rules) k ils e).config) steps) (omega (arith, d, s, steps))
-      (h ∙ ap (λ θ. among_of (Turn less θ) left far around) b ∙ ap (λ k. among_of (Turn less ils) k far around) (l ∙ ap (λ k. k - m) budget) ∙ ap (among_of (Turn less ils) ((setup_of rules).budget - m) far) o)
+    (h ∙ ap (λ θ. among_of (Turn less θ) left far around) b ∙ ap (λ k. among_of (Turn less ils) k far around) (l ∙ ap (λ k. k - m) budget) ∙ ap (among_of (Turn less ils) ((setup_of rules).budget - m) far) o)
     ∙ ap (λ k. next_turn (setup_of rules) m k ils e) (sym t)

@@ -1,14 +1,14 @@
 -- One more reply: the machine that it leads to, and that all replies still fit.
-use Rattle.std.proofs.Common.{ℕ, ◌≡◌, ◌+◌, ◌*◌, ◌^◌, ◌≤◌, ◌<◌, Bool, true, false, not, List, [], ◌∷◌, ◌++◌, Option, Some, None, refl, sym, ◌∙◌, ap, subst, arith}
+use Rattle.std.proofs.Common.{◌≡◌, ◌+◌, ◌*◌, ◌^◌, ◌≤◌, ◌<◌, Bool, true, false, List, [], ◌∷◌, ◌++◌, Option, Some, None, refl, sym, ◌∙◌, ap, subst, arith}
 use Rattle.std.proofs.lemmas.Bool.{false≢true}
 use Rattle.objective.specs.Costs.{Table}
 use Rattle.param_space.specs.Configurations.{IsConfig}
 use Rattle.param_space.specs.Space.{defaults}
 use Rattle.uncapped.specs.Procedure.{Settings, PlainState, Procedure}
 use Rattle.uncapped.specs.Searching.{search_after}
-use Rattle.uncapped.specs.Uncapped.{Run, run_after, at_first}
+use Rattle.uncapped.specs.Uncapped.{run_after, at_first}
 use Rattle.ils_face.specs.declared.asks.Reply.{Reply}
-use Rattle.ils_face.specs.Replies.{Fits, ask_for, asking}
+use Rattle.ils_face.specs.Replies.{Fits, ask_for}
 use Rattle.ils_face.specs.Rules.{Rules, AreRules}
 use Rattle.ils_face.specs.Setups.{setup_of, setup_of-numbers}
 use Rattle.ils_face.specs.Shown.{View, AreFitting, Follows, sums_under}
@@ -19,8 +19,8 @@ use Rattle.ils_frame.specs.Nexts.{next}
 use Rattle.ils_frame.specs.Machine.{Machine, begin, settle, opened, answered, after_all, view_of}
 use Rattle.ils_frame.specs.Naming.{IsPendingAllowed}
 use Rattle.ils_frame.specs.Drawing.{draws_allowed}
-use Rattle.ils_frame.specs.Fitting.{IsFitting, opened-settled, live}
-use Rattle.ils_frame.specs.Steadying.{FitsAt, fits_at, after_all-none, after_all-more, shown_from, reached, first_fitting, search_steady}
+use Rattle.ils_frame.specs.Fitting.{IsFitting, live}
+use Rattle.ils_frame.specs.Steadying.{FitsAt, fits_at, after_all-none, after_all-more, reached, first_fitting, search_steady}
 use Rattle.ils_frame.specs.Promising.{search_follows}
 
 -- one more fitting reply
@@ -84,10 +84,10 @@ module _ {S : Type 0} (parts : Parts S) (first : S) (rules : Rules) where
           allowed = k.named;
           drawn = let d : f.event ≤ 103 * ((parts.last f.comparer).compared + 1) = k.drawn going in let w : (parts.last f.comparer).compared ≤ (setup_of rules).budget = k.within in let e : (setup_of rules).budget ≡ rules.budget = (setup_of-numbers rules).budget in let b : rules.budget ≤ 100000 = are.budget_in_range in omega (arith, d, w, e, b);
           within = let w : (parts.last f.comparer).compared ≤ (setup_of rules).budget = k.within in let b : (setup_of rules).budget ≡ rules.budget = (setup_of-numbers rules).budget in omega (arith, w, b);
-          going = going
+          going = going;
         }
 
-    compared-kept : (f : Machine S) (rs : List Reply) (r : Reply) → f ≡ machine_after rs → AreFitting shown_after rs → Fits (ask_for (question_in (parts.phase f.comparer))) r → (parts.last (parts.after f.comparer r)).compared ≡ (parts.last f.comparer).compared
+    pub compared-kept : (f : Machine S) (rs : List Reply) (r : Reply) → f ≡ machine_after rs → AreFitting shown_after rs → Fits (ask_for (question_in (parts.phase f.comparer))) r → (parts.last (parts.after f.comparer r)).compared ≡ (parts.last f.comparer).compared
     compared-kept f rs r e i fits =
         let k : Fitting f = subst (λ g. Fitting g) (sym e) (fitting-here rs i) in
         let a : FitsAt (parts.phase f.comparer) r = fits_at (parts.phase f.comparer) r fits in

@@ -26,9 +26,9 @@ module _ (allowed : Settings → Type 0) where
 pub draws_allowed : (rules : Rules) → AreRules rules → DrawsAllowed (IsConfig rules.space) (setup_of rules)
 unfolding setup_of
 draws_allowed rules are = record {
-    start = default_is_config rules.space are.space;
-    around = λ e θ a. picked-allowed (IsConfig rules.space) (neighbours_of rules.space θ) (neighbours_sound rules.space are.space θ a)
-        (order_of rules.seed (stream_of e) (length (neighbours_of rules.space θ))) (All-order_of rules.seed (stream_of e) (length (neighbours_of rules.space θ)));
-    one = λ e θ a. one-allowed (IsConfig rules.space) rules.seed (stream_of e) (neighbours_of rules.space θ) (neighbours_sound rules.space are.space θ a);
-    random = λ e. random_is_config rules.space are.space rules.seed (stream_of e)
-  }
+  start = default_is_config rules.space are.space;
+  around = λ e θ a. picked-allowed (IsConfig rules.space) (neighbours_of rules.space θ) (neighbours_sound rules.space are.space θ a)
+      (order_of rules.seed (stream_of e) (length (neighbours_of rules.space θ))) (All-order_of rules.seed (stream_of e) (length (neighbours_of rules.space θ)));
+  one = λ e θ a. one-allowed (IsConfig rules.space) rules.seed (stream_of e) (neighbours_of rules.space θ) (neighbours_sound rules.space are.space θ a);
+  random = λ e. random_is_config rules.space are.space rules.seed (stream_of e);
+}

@@ -58,26 +58,28 @@ module _ {S : Type 0} (parts : Parts S) (fit : S → Type 0) (setup : Setup) (al
 
   begun : (c : S) → CanBegin c → (n : Next) → IsNextAllowed allowed n → IsNextSpare setup (compared c) n → IsDrawnBy setup (103 * (compared c + 2)) n → IsSettled c (begin parts setup c n)
   begun c k (Finish e) d s b = record {
-      fitting = record { stays_fit = k.is_fit; within = k.within; asks = k.asks_nothing; named = tt; spared = λ o. not_both (sym o); spent = λ o. s; drawn = λ o. not_both (sym o) };
-      same_entries = refl;
-      no_further = omega arith;
-      incumbent = same (parts.last c)
-    }
+    fitting = record { stays_fit = k.is_fit; within = k.within; asks = k.asks_nothing; named = tt; spared = λ o. not_both (sym o); spent = λ o. s; drawn = λ o. not_both (sym o) };
+    same_entries = refl;
+    no_further = omega arith;
+    incumbent = same (parts.last c);
+  }
   begun c k (Compare purpose θ φ e) d s b = at_either (compared c == setup.budget) refl
     where
       next_one : Bool → Machine S
       next_one over = if over
           then record { comparer = c; pending = purpose; event = e; over = true }
           else record { comparer = parts.begun c θ φ (compared c + 1); pending = purpose; event = e; over = false }
+
       smaller : (more less l x : ℕ) → more ≡ suc less → l ≤ 8 * setup.max_runs + 16 → spare parts setup less + l ≤ spare parts setup more + x
       smaller more less l x e h = rw e (omega (arith, h))
+
       at_either : (over : Bool) → (compared c == setup.budget) ≡ over → IsSettled c (next_one over)
       at_either true t = record {
-          fitting = record { stays_fit = k.is_fit; within = k.within; asks = k.asks_nothing; named = d.0; spared = λ o. not_both (sym o); spent = λ o. eqb-true (compared c) setup.budget t; drawn = λ o. not_both (sym o) };
-          same_entries = refl;
-          no_further = omega arith;
-          incumbent = same (parts.last c)
-        }
+        fitting = record { stays_fit = k.is_fit; within = k.within; asks = k.asks_nothing; named = d.0; spared = λ o. not_both (sym o); spent = λ o. eqb-true (compared c) setup.budget t; drawn = λ o. not_both (sym o) };
+        same_entries = refl;
+        no_further = omega arith;
+        incumbent = same (parts.last c);
+      }
       at_either false t =
           let g : Begun parts fit setup.max_runs c (parts.begun c θ φ (compared c + 1)) (compared c + 1) = steady.begins c θ φ (compared c + 1) k.is_fit (not-asking (parts.phase c) k.asks_nothing) (omega arith) d.1 d.2 in
           let n : compared c < setup.budget = let z = eqb-false (compared c) setup.budget t in let w = k.within in omega (arith, w, z) in
@@ -89,11 +91,11 @@ module _ {S : Type 0} (parts : Parts S) (fit : S → Type 0) (setup : Setup) (al
               named = d.0;
               spared = λ o. rw g.compared s;
               spent = λ o. not_both o;
-              drawn = λ o. rw g.compared (omega (arith, b))
+              drawn = λ o. rw g.compared (omega (arith, b));
             };
             same_entries = g.same_entries;
             no_further = rw g.compared (smaller (setup.budget - compared c) (setup.budget - (compared c + 1)) (parts.left (parts.begun c θ φ (compared c + 1))) (parts.left c) (omega (arith, n)) g.few);
-            incumbent = g.incumbent
+            incumbent = g.incumbent;
           }
 
   -- what is kept for what follows a comparison
@@ -105,11 +107,11 @@ module _ {S : Type 0} (parts : Parts S) (fit : S → Type 0) (setup : Setup) (al
   settled_at : (c : S) → fit c → compared c ≤ setup.budget → (purpose : Pending) (e : ℕ) → IsKept c purpose e → (p : Phase) → parts.phase c ≡ p → IsSettled c (settle parts setup c purpose e (decision_in p))
   unfolding settle
   settled_at c f w purpose e k (Asking q) t = record {
-      fitting = record { stays_fit = f; within = w; asks = ap is_asking t; named = k.named; spared = λ o. k.spared; spent = λ o. not_both o; drawn = λ o. k.drawn };
-      same_entries = refl;
-      no_further = omega arith;
-      incumbent = same (parts.last c)
-    }
+    fitting = record { stays_fit = f; within = w; asks = ap is_asking t; named = k.named; spared = λ o. k.spared; spent = λ o. not_both o; drawn = λ o. k.drawn };
+    same_entries = refl;
+    no_further = omega arith;
+    incumbent = same (parts.last c);
+  }
   settled_at c f w purpose e k Ready t = begun c (record { is_fit = f; within = w; asks_nothing = ap is_asking t }) (next setup (compared c) purpose false e)
       (next-allowed allowed setup draws (compared c) purpose false e k.named) (next-spare setup (compared c) w purpose false e k.spared)
       (next-drawn setup (compared c) (103 * (compared c + 2)) purpose false e (let d = k.drawn in omega (arith, d, few_steps)))
@@ -149,7 +151,7 @@ module _ {S : Type 0} (parts : Parts S) (fit : S → Type 0) (setup : Setup) (al
   answered-settled f q r k e a =
       let w : compared f.comparer ≤ setup.budget = k.within in
       settled (parts.after f.comparer r) a.stays_fit (rw a.compared w) f.pending f.event
-        (record { named = k.named; spared = rw a.compared (k.spared (live f q k e)); drawn = rw a.compared (k.drawn (live f q k e)) })
+      (record { named = k.named; spared = rw a.compared (k.spared (live f q k e)); drawn = rw a.compared (k.drawn (live f q k e)) })
 
   pub replies : (f : Machine S) (q : Question) (r : Reply) → IsFitting f → parts.phase f.comparer ≡ Asking q → Fits (asking q.config q.places q.bound) r → Replied f q r
   replies f q r k e fits =
@@ -163,6 +165,7 @@ module _ {S : Type 0} (parts : Parts S) (fit : S → Type 0) (setup : Setup) (al
             omega (arith, h, n, m);
         grown = t.same_entries ∙ a.grown;
         incumbent = elim a.incumbent [
-            inl p ↦ inl (then_same (parts.last f.comparer) (parts.last (parts.after f.comparer r)) (parts.last (answered parts setup f r).comparer) p t.incumbent)
-          | inr p ↦ inr (then_new q r (parts.last (parts.after f.comparer r)) (parts.last (answered parts setup f r).comparer) p t.incumbent) ]
+          | inl p ↦ inl (then_same (parts.last f.comparer) (parts.last (parts.after f.comparer r)) (parts.last (answered parts setup f r).comparer) p t.incumbent)
+          | inr p ↦ inr (then_new q r (parts.last (parts.after f.comparer r)) (parts.last (answered parts setup f r).comparer) p t.incumbent)
+        ];
       }

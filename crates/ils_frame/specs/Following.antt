@@ -106,18 +106,18 @@ module _ {S : Type 0} (parts : Parts S) (fit : S → Type 0) (stands : S → Pla
   done : (f : Machine S) (s : PlainState) → Sound f s → is_asking (parts.phase f.comparer) ≡ false → PlaysFrom f s
   unfolding after_all
   done f s k e = rw (finishes parts fit stands coming better opening setup sums first keeps allowed draws few_steps steady fitting f s k e) (record {
-      rest = [];
-      late = [];
-      count = 0;
-      all_asks = sym (append-nil s.asks);
-      all_entries = sym (append-nil s.entries);
-      later = tt;
-      shown_asks = asks_nothing f (not-asking (parts.phase f.comparer) e);
-      shown_entries = shows_same f (length s.asks);
-      known = λ k h. absurd (omega (arith, h));
-      finished = λ o. (refl, sym (append-nil (parts.entries f.comparer)), keeps.last f.comparer s k.stays_fitting.stays_fit k.stays);
-      aborted = λ o. not_aborted o
-    })
+    rest = [];
+    late = [];
+    count = 0;
+    all_asks = sym (append-nil s.asks);
+    all_entries = sym (append-nil s.entries);
+    later = tt;
+    shown_asks = asks_nothing f (not-asking (parts.phase f.comparer) e);
+    shown_entries = shows_same f (length s.asks);
+    known = λ k h. absurd (omega (arith, h));
+    finished = λ o. (refl, sym (append-nil (parts.entries f.comparer)), keeps.last f.comparer s k.stays_fitting.stays_fit k.stays);
+    aborted = λ o. not_aborted o;
+  })
 
   asks_one : (f : Machine S) (q : Question) → question_in (parts.phase f.comparer) ≡ Some q → (k : ℕ) → k ≤ 0 → question_in (parts.phase (after_all parts setup f (map (reply_to sums) (take k (q ∷ [])))).comparer) ≡ slice_get (q ∷ []) k
   unfolding after_all
@@ -131,18 +131,18 @@ module _ {S : Type 0} (parts : Parts S) (fit : S → Type 0) (stands : S → Pla
 
   stopped : (f : Machine S) (s : PlainState) (q : Question) → Sound f s → parts.phase f.comparer ≡ Asking q → cost_asked sums q ≡ None → PlaysFrom f s
   stopped f s q k e unknown = rw (aborts parts fit stands coming better opening setup sums first keeps allowed draws few_steps steady fitting f s q k e unknown) (record {
-      rest = q ∷ [];
-      late = [];
-      count = 0;
-      all_asks = refl;
-      all_entries = sym (append-nil s.entries);
-      later = tt;
-      shown_asks = asks_one f q (ap question_in e);
-      shown_entries = shows_none f q (length s.asks);
-      known = λ k h. absurd (omega (arith, h));
-      finished = λ o. not_finished o;
-      aborted = λ o. (refl, unknown)
-    })
+    rest = q ∷ [];
+    late = [];
+    count = 0;
+    all_asks = refl;
+    all_entries = sym (append-nil s.entries);
+    later = tt;
+    shown_asks = asks_one f q (ap question_in e);
+    shown_entries = shows_none f q (length s.asks);
+    known = λ k h. absurd (omega (arith, h));
+    finished = λ o. not_finished o;
+    aborted = λ o. (refl, unknown);
+  })
 
   module _ (f : Machine S) (s : PlainState) (q : Question) (x : ℕ) (e : parts.phase f.comparer ≡ Asking q) (known : cost_asked sums q ≡ Some x) where
     abbrev g : Machine S
@@ -162,51 +162,60 @@ module _ {S : Type 0} (parts : Parts S) (fit : S → Type 0) (stands : S → Pla
     goes_on_playing : Turn parts fit stands coming better opening setup sums first keeps allowed draws few_steps steady fitting f s q (up_to x q.bound) → PlaysFrom g u → PlaysFrom f s
     unfolding after_all
     goes_on_playing t p = rw t.same (record {
-        rest = q ∷ p.rest;
-        late = numbered (length s.asks + 1) new ++ p.late;
-        count = suc p.count;
-        all_asks = p.all_asks ∙ ap (λ asks. asks ++ p.rest) t.asks ∙ append_assoc s.asks (q ∷ []) p.rest;
-        all_entries = p.all_entries ∙ ap (λ es. es ++ p.late) t.entries ∙ append_assoc s.entries (numbered (length s.asks + 1) new) p.late;
-        later = later-append (length s.asks) (numbered (length s.asks + 1) new) p.late (later-numbered (length s.asks) (length s.asks + 1) new (omega arith))
-            (later-less (length s.asks) (length u.asks) p.late (let n = number in omega (arith, n)) p.later);
-        shown_asks = asks_on;
-        shown_entries = entries_on;
-        known = known_on;
-        finished = λ o. (ap suc (p.finished o).0,
-            ap (λ m. parts.entries m.comparer) (on (map (reply_to sums) p.rest)) ∙ (p.finished o).1 ∙ joined (map entry_in p.late),
-            ap (λ m. parts.last m.comparer) (on (map (reply_to sums) p.rest)) ∙ (p.finished o).2);
-        aborted = λ o. (ap suc (p.aborted o).0, (p.aborted o).1)
-      })
+      rest = q ∷ p.rest;
+      late = numbered (length s.asks + 1) new ++ p.late;
+      count = suc p.count;
+      all_asks = p.all_asks ∙ ap (λ asks. asks ++ p.rest) t.asks ∙ append_assoc s.asks (q ∷ []) p.rest;
+      all_entries = p.all_entries ∙ ap (λ es. es ++ p.late) t.entries ∙ append_assoc s.entries (numbered (length s.asks + 1) new) p.late;
+      later = later-append (length s.asks) (numbered (length s.asks + 1) new) p.late (later-numbered (length s.asks) (length s.asks + 1) new (omega arith))
+          (later-less (length s.asks) (length u.asks) p.late (let n = number in omega (arith, n)) p.later);
+      shown_asks = asks_on;
+      shown_entries = entries_on;
+      known = known_on;
+      finished = λ o. (
+        ap suc (p.finished o).0,
+        ap (λ m. parts.entries m.comparer) (on (map (reply_to sums) p.rest)) ∙ (p.finished o).1 ∙ joined (map entry_in p.late),
+        ap (λ m. parts.last m.comparer) (on (map (reply_to sums) p.rest)) ∙ (p.finished o).2,
+      );
+      aborted = λ o. (ap suc (p.aborted o).0, (p.aborted o).1);
+    })
       where
         new : List Incumbent
         new = parts.added f.comparer (up_to x q.bound)
+
         number : length u.asks ≡ length s.asks + 1
         number = ap length t.asks ∙ length-append s.asks (q ∷ [])
+
         split : (es : List Incumbent) → parts.entries g.comparer ++ es ≡ parts.entries f.comparer ++ (new ++ es)
         split es = ap (λ old. old ++ es) t.grown ∙ append_assoc (parts.entries f.comparer) new es
+
         joined : (es : List Incumbent) → parts.entries g.comparer ++ map entry_in p.late ≡ parts.entries f.comparer ++ map entry_in (numbered (length s.asks + 1) new ++ p.late)
         joined es = split (map entry_in p.late) ∙ ap (λ es. parts.entries f.comparer ++ es) (ap (λ n. n ++ map entry_in p.late) (sym (unnumbered (length s.asks + 1) new)) ∙ sym (map-append entry_in (numbered (length s.asks + 1) new) p.late))
+
         asks_on : (k : ℕ) → k ≤ suc p.count → question_in (parts.phase (after_all parts setup f (map (reply_to sums) (take k (q ∷ p.rest)))).comparer) ≡ slice_get (q ∷ p.rest) k
         asks_on zero h = ap question_in e
         asks_on (suc k) h = ap (λ m. question_in (parts.phase m.comparer)) (on (map (reply_to sums) (take k p.rest))) ∙ p.shown_asks k (omega (arith, h))
+
         -- those that were just added, and those of the rest that were added before
         sorted : (k : ℕ) → filter (is_before (length s.asks + suc k)) (numbered (length s.asks + 1) new ++ p.late) ≡ numbered (length s.asks + 1) new ++ filter (is_before (length u.asks + k)) p.late
         sorted k = filter-append (is_before (length s.asks + suc k)) (numbered (length s.asks + 1) new) p.late
             ∙ ap (λ es. es ++ filter (is_before (length s.asks + suc k)) p.late) (before-all (length s.asks + 1) (length s.asks + suc k) new (omega arith))
             ∙ ap (λ n. numbered (length s.asks + 1) new ++ filter (is_before n) p.late) (let n = number in omega (arith, n))
+
         entries_on : (k : ℕ) → k ≤ suc p.count → parts.entries (after_all parts setup f (map (reply_to sums) (take k (q ∷ p.rest)))).comparer
             ≡ parts.entries f.comparer ++ map entry_in (filter (is_before (length s.asks + k)) (numbered (length s.asks + 1) new ++ p.late))
         entries_on zero h = sym (append-nil (parts.entries f.comparer))
             ∙ ap (λ es. parts.entries f.comparer ++ map entry_in es) (sym (ap (λ n. filter (is_before n) (numbered (length s.asks + 1) new ++ p.late)) (omega arith)
-              ∙ before-none (length s.asks) (numbered (length s.asks + 1) new ++ p.late)
-                (later-append (length s.asks) (numbered (length s.asks + 1) new) p.late (later-numbered (length s.asks) (length s.asks + 1) new (omega arith))
-                  (later-less (length s.asks) (length u.asks) p.late (let n = number in omega (arith, n)) p.later))))
+            ∙ before-none (length s.asks) (numbered (length s.asks + 1) new ++ p.late)
+            (later-append (length s.asks) (numbered (length s.asks + 1) new) p.late (later-numbered (length s.asks) (length s.asks + 1) new (omega arith))
+            (later-less (length s.asks) (length u.asks) p.late (let n = number in omega (arith, n)) p.later))))
         entries_on (suc k) h = ap (λ m. parts.entries m.comparer) (on (map (reply_to sums) (take k p.rest))) ∙ p.shown_entries k (omega (arith, h))
             ∙ split (map entry_in (filter (is_before (length u.asks + k)) p.late))
             ∙ ap (λ es. parts.entries f.comparer ++ es)
-              (ap (λ n. n ++ map entry_in (filter (is_before (length u.asks + k)) p.late)) (sym (unnumbered (length s.asks + 1) new))
-              ∙ sym (map-append entry_in (numbered (length s.asks + 1) new) (filter (is_before (length u.asks + k)) p.late))
-              ∙ ap (map entry_in) (sym (sorted k)))
+            (ap (λ n. n ++ map entry_in (filter (is_before (length u.asks + k)) p.late)) (sym (unnumbered (length s.asks + 1) new))
+            ∙ sym (map-append entry_in (numbered (length s.asks + 1) new) (filter (is_before (length u.asks + k)) p.late))
+            ∙ ap (map entry_in) (sym (sorted k)))
+
         known_on : (k : ℕ) → k < suc p.count → IfSome (slice_get (q ∷ p.rest) k) (λ q. IsSome (cost_asked sums q))
         known_on zero h = some_known (cost_asked sums q) x known
         known_on (suc k) h = p.known k (omega (arith, h))
@@ -220,6 +229,7 @@ module _ {S : Type 0} (parts : Parts S) (fit : S → Type 0) (stands : S → Pla
     where
       IH : Type 0
       IH = (g : Machine S) (u : PlainState) → Sound g u → (view_of parts setup g).left < fuel → PlaysFrom g u
+
       at_cost : IH → (q : Question) → parts.phase f.comparer ≡ Asking q → (o : Option ℕ) → cost_asked sums q ≡ o → PlaysFrom f s
       at_cost ih q e None c = stopped f s q k e c
       at_cost ih q e (Some x) c =
@@ -227,6 +237,7 @@ module _ {S : Type 0} (parts : Parts S) (fit : S → Type 0) (stands : S → Pla
           let n : Replied parts fit setup allowed draws few_steps first steady f q (up_to x q.bound) = replies parts fit setup allowed draws few_steps first steady f q (up_to x q.bound) k.stays_fitting e (fitting q x) in
           let m : (view_of parts setup (answered parts setup f (up_to x q.bound))).left < (view_of parts setup f).left = n.falls in
           goes_on_playing f s q x e c t (ih (answered parts setup f (up_to x q.bound)) (answered_state parts setup f (up_to x q.bound) s) t.sound (omega (arith, h, m)))
+
       at_phase : IH → (p : Phase) → parts.phase f.comparer ≡ p → PlaysFrom f s
       at_phase ih Ready e = done f s k (ap is_asking e)
       at_phase ih (Asking q) e = at_cost ih q e (cost_asked sums q) refl

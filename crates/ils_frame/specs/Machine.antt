@@ -6,6 +6,7 @@ use Rattle.ils_face.specs.declared.asks.Reply.{Reply}
 use Rattle.ils_face.specs.Replies.{ask_for}
 use Rattle.ils_face.specs.Rules.{Rules}
 use Rattle.ils_face.specs.Shown.{View}
+use Rattle.ils_frame.specs.declared.pending.Course.{Course}
 use Rattle.ils_frame.specs.declared.pending.Pending.{Pending}
 use Rattle.ils_frame.specs.declared.pending.Pending.TheVariants.{Opening}
 use Rattle.ils_frame.specs.Comparing.{Parts, question_in, decision_in}
@@ -87,3 +88,7 @@ module _ {S : Type 0} (parts : Parts S) (setup : Setup) where
 
     abbrev pub search_coming : Machine S → Procedure (Unit {0})
     search_coming f = coming_at f.over f.comparer f.pending
+
+-- a comparer and its course as the machine
+abbrev pub machine_of : {S : Type 0} → S → Course → Machine S
+machine_of c course = record { comparer = c; pending = course.pending; event = course.event; over = course.over }

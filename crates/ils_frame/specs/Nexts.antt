@@ -88,8 +88,8 @@ module _ (setup : Setup) where
     abbrev pub come_back : ℕ → Settings → Settings → Bool → Procedure (Unit {0})
     come_back more θ ils won = draw setup.coin >>= λ restart.
         if restart
-          then (draw setup.random >>= search_on setup better more)
-          else search_on setup better more (if won then θ else ils)
+        then (draw setup.random >>= search_on setup better more)
+        else search_on setup better more (if won then θ else ils)
 
     -- what follows an improvement
     abbrev pub finish : After → Settings → Procedure (Unit {0})

@@ -28,6 +28,7 @@ reply_fits q x = at_either q.bound
     at_bound : (b : ℕ) (t : Bool) → nat_le x b ≡ t → Fits (asking q.config q.places (Some b)) (if t then Exact (record { 0 = x }) else Exceeds)
     at_bound b true e = leb-true x b e
     at_bound b false e = tt
+
     at_either : (bound : Option ℕ) → Fits (asking q.config q.places bound) (up_to x bound)
     at_either None = tt
     at_either (Some b) = at_bound b (nat_le x b) refl
@@ -45,32 +46,37 @@ module _ {S : Type 0} (parts : Parts S) (setup : Setup) (sums : Sums) (first : S
   followed : (s : PlainState) (run : Run) → s.asks ≡ [] → s.entries ≡ numbered 0 (parts.entries first) → parts.entries f0.comparer ≡ parts.entries first → Plays parts setup sums f0 s run
       → Follows (shown_from parts setup f0) sums run
   followed s run none some same p = record {
-      asks = λ k h. ap ask_for (rw asks (p.shown_asks k (up h)));
-      entries = λ k h. rw asks (p.shown_entries k (up h)) ∙ sorted k;
-      known = λ k h. rw asks (p.known k (rw (← number) h));
-      finished = λ e. record {
-        entries = rw (asks, take_all (length p.rest) p.rest (omega arith)) ((p.finished e).1) ∙ all;
-        last = rw (asks, take_all (length p.rest) p.rest (omega arith)) ((p.finished e).2)
-      };
-      aborted = λ e. record {
-        unanswered = rw number (let h : length p.rest ≡ suc p.count = (p.aborted e).0 in let a : length run.asks ≡ length p.rest = ap length asks in omega (arith, h, a));
-        unknown = rw (number, asks) ((p.aborted e).1)
-      }
-    }
+    asks = λ k h. ap ask_for (rw asks (p.shown_asks k (up h)));
+    entries = λ k h. rw asks (p.shown_entries k (up h)) ∙ sorted k;
+    known = λ k h. rw asks (p.known k (rw (← number) h));
+    finished = λ e. record {
+      entries = rw (asks, take_all (length p.rest) p.rest (omega arith)) ((p.finished e).1) ∙ all;
+      last = rw (asks, take_all (length p.rest) p.rest (omega arith)) ((p.finished e).2);
+    };
+    aborted = λ e. record {
+      unanswered = rw number (let h : length p.rest ≡ suc p.count = (p.aborted e).0 in let a : length run.asks ≡ length p.rest = ap length asks in omega (arith, h, a));
+      unknown = rw (number, asks) ((p.aborted e).1);
+    };
+  }
     where
       asks : run.asks ≡ p.rest
       asks = p.all_asks ∙ ap (λ a. a ++ p.rest) none
+
       number : answered run ≡ p.count
       number = counts run.end (length run.asks) p.count (λ e. ap length asks ∙ (p.finished e).0) (λ e. ap length asks ∙ (p.aborted e).0)
+
       up : {k : ℕ} → k ≤ answered run → k ≤ p.count
       up {k} h = subst (λ n. k ≤ n) number h
+
       all_entries : run.entries ≡ numbered 0 (parts.entries first) ++ p.late
       all_entries = p.all_entries ∙ ap (λ es. es ++ p.late) some
+
       all : parts.entries f0.comparer ++ map entry_in p.late ≡ map entry_in run.entries
       all = ap (λ es. es ++ map entry_in p.late) same
           ∙ ap (λ es. es ++ map entry_in p.late) (sym (unnumbered 0 (parts.entries first)))
           ∙ sym (map-append entry_in (numbered 0 (parts.entries first)) p.late)
           ∙ ap (map entry_in) (sym all_entries)
+
       sorted : (k : ℕ) → parts.entries f0.comparer ++ map entry_in (filter (is_before (length s.asks + k)) p.late) ≡ entries_before run k
       sorted k = ap (λ es. es ++ map entry_in (filter (is_before (length s.asks + k)) p.late)) same
           ∙ ap (λ n. parts.entries first ++ map entry_in (filter (is_before n) p.late)) (let n = ap length none in omega (arith, n))
@@ -98,5 +104,5 @@ module _ {S : Type 0} (parts : Parts S) (fit : S → Type 0) (stands : S → Pla
       let t : StandsFor parts fit stands coming better opening setup sums first keeps (opened_state parts setup first) (opened parts setup first) s0 = settle_stands parts fit stands coming better opening setup sums first keeps first (opened_state parts setup first) steady.opened keeps.opened Opening 0 refl in
       let o : IsSettled parts fit setup allowed draws few_steps first steady first (opened parts setup first) = opened-settled parts fit setup allowed draws few_steps first steady in
       rw same_run (followed parts setup sums first s0 (run_after sums (search_coming parts setup better coming (opened parts setup first) s0)) t.asks t.entries o.same_entries
-        (plays parts fit stands coming better opening setup sums first keeps allowed draws few_steps steady reply_fits (suc (view_of parts setup (opened parts setup first)).left) (opened parts setup first) s0
-          (record { stays_fitting = o.fitting; stays = t.stays; event = t.event }) (omega arith)))
+      (plays parts fit stands coming better opening setup sums first keeps allowed draws few_steps steady reply_fits (suc (view_of parts setup (opened parts setup first)).left) (opened parts setup first) s0
+      (record { stays_fitting = o.fitting; stays = t.stays; event = t.event }) (omega arith)))

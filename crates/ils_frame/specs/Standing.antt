@@ -43,12 +43,16 @@ module _ {S : Type 0} (parts : Parts S) (fit : S → Type 0) (stands : S → Pla
       machine over = if over
           then record { comparer = c; pending = purpose; event = e; over = true }
           else record { comparer = parts.begun c θ φ ((parts.last c).compared + 1); pending = purpose; event = e; over = false }
+
       moved : Bool → PlainState
       moved over = if over then at_event s e else parts.started c θ φ ((parts.last c).compared + 1) (at_event s e)
+
       number : s.compared ≡ (parts.last c).compared
       number = same_number c s f h
+
       started : Starts parts stands coming better c θ φ ((parts.last c).compared + 1) (at_event s e)
       started = keeps.begins c (at_event s e) θ φ ((parts.last c).compared + 1) f (keeps.redrawn c s e h) none
+
       at_either : (over : Bool) → ((parts.last c).compared == setup.budget) ≡ over
           → (compare setup better θ φ >>= following setup better purpose) (at_event s e) ≡ coming_of (machine over) (moved over)
       at_either true t = ap (λ a. goes_on a (following setup better purpose)) (compares-not setup better θ φ (at_event s e) (ap (λ n. n == setup.budget) number ∙ t))
@@ -92,10 +96,13 @@ module _ {S : Type 0} (parts : Parts S) (fit : S → Type 0) (stands : S → Pla
       machine over = if over
           then record { comparer = c; pending = purpose; event = e; over = true }
           else record { comparer = parts.begun c θ φ ((parts.last c).compared + 1); pending = purpose; event = e; over = false }
+
       moved : Bool → PlainState
       moved over = if over then at_event s e else parts.started c θ φ ((parts.last c).compared + 1) (at_event s e)
+
       started : Starts parts stands coming better c θ φ ((parts.last c).compared + 1) (at_event s e)
       started = keeps.begins c (at_event s e) θ φ ((parts.last c).compared + 1) f (keeps.redrawn c s e h) none
+
       at_either : (over : Bool) → StandsFor s (machine over) (moved over)
       at_either true = record { stays = keeps.redrawn c s e h; event = λ o. refl; asks = refl; entries = refl }
       at_either false = record { stays = started.stays; event = λ o. started.unasked.event; asks = started.unasked.asks; entries = started.unasked.entries }
@@ -145,7 +152,7 @@ module _ {S : Type 0} (parts : Parts S) (fit : S → Type 0) (stands : S → Pla
               ∙ settles (parts.after f.comparer r) (parts.replied f.comparer r s) a.stays_fit g.stays f.pending f.event event;
           asks = u.asks ∙ g.advanced.asks;
           entries = u.entries ∙ g.advanced.entries;
-          grown = t.same_entries ∙ a.grown
+          grown = t.same_entries ∙ a.grown;
         }
 
     -- an unknown cost: the procedure is aborted

@@ -91,11 +91,13 @@ module _ {S : Type 0} (parts : Parts S) (fit : S → Type 0) (rules : Rules) (se
       let g : Machine S = answered parts setup f r in
       let end : Incumbent = parts.last (after_all parts setup g later).comparer in
       elim (earned g t.fitting later i.1) [
-        inr w ↦ inr (inr w)
-      | inl s ↦ elim t.incumbent [
-          inl p ↦ inl (then_same parts fit setup (IsConfig rules.space) draws few_steps first steady (parts.last f.comparer) (parts.last g.comparer) end p s)
-        | inr n ↦ inr (inl (was_replied (ask_for (question_in (parts.phase f.comparer))) a.question r end (asks_here (parts.phase f.comparer) a.question a.here)
-            (then_new parts fit setup (IsConfig rules.space) draws few_steps first steady a.question r (parts.last g.comparer) end n s))) ] ]
+        | inr w ↦ inr (inr w)
+        | inl s ↦ elim t.incumbent [
+          | inl p ↦ inl (then_same parts fit setup (IsConfig rules.space) draws few_steps first steady (parts.last f.comparer) (parts.last g.comparer) end p s)
+          | inr n ↦ inr (inl (was_replied (ask_for (question_in (parts.phase f.comparer))) a.question r end (asks_here (parts.phase f.comparer) a.question a.here)
+              (then_new parts fit setup (IsConfig rules.space) draws few_steps first steady a.question r (parts.last g.comparer) end n s)))
+        ]
+      ]
 
   pub first_fitting : Fitting (opened parts setup first)
   first_fitting = (opened-settled parts fit setup (IsConfig rules.space) draws few_steps first steady).fitting
@@ -106,6 +108,7 @@ module _ {S : Type 0} (parts : Parts S) (fit : S → Type 0) (rules : Rules) (se
     where
       within : InRange setup.max_runs (IsConfig rules.space) q → IsEvaluation rules q.config q.places
       within i = record { config = i.config; some = i.some; within = let w : q.places ≤ setup.max_runs = i.within in let e : setup.max_runs ≡ rules.max_runs = same.max_runs in omega (arith, w, e) }
+
       at_either : (bound : Option ℕ) → InRange setup.max_runs (IsConfig rules.space) q → IsAsk rules (asking q.config q.places bound)
       at_either None i = within i
       at_either (Some b) i = within i
@@ -132,17 +135,18 @@ module _ {S : Type 0} (parts : Parts S) (fit : S → Type 0) (rules : Rules) (se
 
   pub search_steady : IsSearchSteady rules from_first
   search_steady = record {
-      asks = λ rs i. let k : Fitting (at_end rs) = reached (opened parts setup first) first_fitting rs i in
-          is_ask (parts.phase (at_end rs).comparer) (λ q e. steady.in_range (at_end rs).comparer q k.stays_fit e);
-      incumbent = λ rs i. let k : Fitting (at_end rs) = reached (opened parts setup first) first_fitting rs i in steady.incumbents (at_end rs).comparer k.stays_fit;
-      entries = λ rs i. let k : Fitting (at_end rs) = reached (opened parts setup first) first_fitting rs i in steady.all_entries (at_end rs).comparer k.stays_fit;
-      earned = λ rs i. elim (earned (opened parts setup first) first_fitting rs i) [
-          inl s ↦ none_earned rs (parts.last first) (parts.last (at_end rs).comparer) steady.nothing_yet
-              (then_same parts fit setup (IsConfig rules.space) draws few_steps first steady (parts.last first) (parts.last (opened parts setup first).comparer) (parts.last (at_end rs).comparer)
-                (opened-settled parts fit setup (IsConfig rules.space) draws few_steps first steady).incumbent s)
-        | inr w ↦ inr w ];
-      spent = λ rs i e. let k : Fitting (at_end rs) = reached (opened parts setup first) first_fitting rs i in
-          k.spent (over_at (at_end rs).over (parts.phase (at_end rs).comparer) k.asks (ends_without (parts.phase (at_end rs).comparer) e)) ∙ same.budget;
-      steps = λ rs r i fits. let k : Fitting (at_end rs) = reached (opened parts setup first) first_fitting rs i in
-          rw (after_all-more parts setup (opened parts setup first) rs r) (steps (at_end rs) r k fits)
-    }
+    asks = λ rs i. let k : Fitting (at_end rs) = reached (opened parts setup first) first_fitting rs i in
+        is_ask (parts.phase (at_end rs).comparer) (λ q e. steady.in_range (at_end rs).comparer q k.stays_fit e);
+    incumbent = λ rs i. let k : Fitting (at_end rs) = reached (opened parts setup first) first_fitting rs i in steady.incumbents (at_end rs).comparer k.stays_fit;
+    entries = λ rs i. let k : Fitting (at_end rs) = reached (opened parts setup first) first_fitting rs i in steady.all_entries (at_end rs).comparer k.stays_fit;
+    earned = λ rs i. elim (earned (opened parts setup first) first_fitting rs i) [
+      | inl s ↦ none_earned rs (parts.last first) (parts.last (at_end rs).comparer) steady.nothing_yet
+          (then_same parts fit setup (IsConfig rules.space) draws few_steps first steady (parts.last first) (parts.last (opened parts setup first).comparer) (parts.last (at_end rs).comparer)
+          (opened-settled parts fit setup (IsConfig rules.space) draws few_steps first steady).incumbent s)
+      | inr w ↦ inr w
+    ];
+    spent = λ rs i e. let k : Fitting (at_end rs) = reached (opened parts setup first) first_fitting rs i in
+        k.spent (over_at (at_end rs).over (parts.phase (at_end rs).comparer) k.asks (ends_without (parts.phase (at_end rs).comparer) e)) ∙ same.budget;
+    steps = λ rs r i fits. let k : Fitting (at_end rs) = reached (opened parts setup first) first_fitting rs i in
+        rw (after_all-more parts setup (opened parts setup first) rs r) (steps (at_end rs) r k fits);
+  }

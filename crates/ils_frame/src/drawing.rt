@@ -55,12 +55,7 @@ pub(crate) fn neighbours_in_order(
 /// The neighbour of a configuration that an event draws, or the configuration itself where
 /// it has none.
 #[tactic(auto, unfolding(ils_face::specs::Setups::setup_of))]
-fn random_step(
-    alloc: Global,
-    rules: &Rules,
-    config: &Config,
-    event: u64,
-) -> Result<Config, Memory>
+fn random_step(alloc: Global, rules: &Rules, config: &Config, event: u64) -> Result<Config, Memory>
     requires config { IsConfig rules.now.space config.now }
     requires event { event < 2 ^ 61 }
     ensures { IfOk result (λ c. c ≡ stepped (setup_of rules.now) config.now event) }

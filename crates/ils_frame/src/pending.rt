@@ -1,4 +1,5 @@
 //! What the present comparison is for.
+ghost use Rattle.ils_frame.specs.Upcoming.{advanced as advanced_from};
 ghost use Rattle.std.specs.Prelude.{◌≡◌, ◌∷◌, [], slice_get, IfOk, IfSome, IfNone};
 
 use objective::Memory;
@@ -132,4 +133,110 @@ pub(crate) enum Pending {
         /// The best so far.
         ils: Config,
     },
+}
+
+impl Pending {
+    /// The same.
+    pub(crate) fn copy(&self) -> Result<Pending, Memory>
+        ensures { IfOk result (λ p. p ≡ self.now) }
+    {
+        match self {
+            Pending::Opening => Ok(Pending::Opening),
+            Pending::Trying {
+                more,
+                challenger,
+                current,
+            } => Ok(Pending::Trying {
+                more: *more,
+                challenger: challenger.copy()?,
+                current: current.copy()?,
+            }),
+            Pending::Improving {
+                after,
+                left,
+                current,
+                neighbour,
+                rest,
+            } => Ok(Pending::Improving {
+                after: after.copy()?,
+                left: *left,
+                current: current.copy()?,
+                neighbour: neighbour.copy()?,
+                rest: rest.copy()?,
+            }),
+            Pending::Returning { more, found, ils } => Ok(Pending::Returning {
+                more: *more,
+                found: found.copy()?,
+                ils: ils.copy()?,
+            }),
+        }
+    }
+
+    /// The next neighbour of the same list is tried. Takes no memory.
+    pub(crate) fn advanced(self) -> Pending
+        ensures { result ≡ advanced_from self }
+    {
+        match self {
+            Pending::Improving {
+                after,
+                left,
+                current,
+                neighbour,
+                rest,
+            } => {
+                let mut later = rest;
+                match later.take_first() {
+                    Some(next) => Pending::Improving {
+                        after,
+                        left: left.saturating_sub(1),
+                        current,
+                        neighbour: next,
+                        rest: later,
+                    },
+                    None => Pending::Improving {
+                        after,
+                        left,
+                        current,
+                        neighbour,
+                        rest: later,
+                    },
+                }
+            }
+            Pending::Opening => Pending::Opening,
+            Pending::Trying {
+                more,
+                challenger,
+                current,
+            } => Pending::Trying {
+                more,
+                challenger,
+                current,
+            },
+            Pending::Returning { more, found, ils } => Pending::Returning { more, found, ils },
+        }
+    }
+}
+
+/// How far the search is between two comparisons.
+#[derive(Drop)]
+pub(crate) struct Course {
+    /// What the present comparison is for.
+    pub pending: Pending,
+    /// The number of the next draw.
+    pub event: u64,
+    /// The budget is used up.
+    pub over: bool,
+}
+
+impl Course {
+    /// The same.
+    pub(crate) fn copy(&self) -> Result<Course, Memory>
+        ensures { IfOk result (λ c. c ≡ self.now) }
+    {
+        Ok(Course {
+            pending: self.pending.copy()?,
+            event: self.event,
+            over: self.over,
+        })
+    }
 }

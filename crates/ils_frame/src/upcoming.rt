@@ -270,7 +270,16 @@ fn next_won(
 {
     let around = neighbours_in_order(alloc, rules, winner, event)?;
     let (after, current) = (after.copy()?, winner.copy()?);
-    improving(alloc, rules, compared, after, left, current, around, event + 1)
+    improving(
+        alloc,
+        rules,
+        compared,
+        after,
+        left,
+        current,
+        around,
+        event + 1,
+    )
 }
 
 /// The coin decides whether the next turn begins at the best so far or at random.

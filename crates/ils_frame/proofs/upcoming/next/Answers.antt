@@ -16,28 +16,28 @@ returns-in_ok-start-in-Opening c =
     let setup : Setup = setup_of now in
     let same : SetupOf now setup = setup_of-numbers now in
     IfOk-weaker c.next_tried.result _ _
-      (λ u h. h
-        ∙ ap (λ n. next_tried setup c.args.compared n c.in_ok-start-in-Opening.start c.args.event) (ap (λ (r : Rules). r.initial) c.rules.view_is ∙ sym same.initial)
-        ∙ ap (λ θ. next_tried setup c.args.compared setup.initial θ c.args.event) (c.in_ok-start-in-Opening.ensures.value ∙ ap (λ (r : Rules). defaults r.space.params) c.rules.view_is ∙ sym same.start)
-        ∙ sym (ap (λ p. next setup c.args.compared p c.args.won c.args.event) c.in-Opening.is))
-      (c.next_tried.ensures c.args.pending.now c.args.event)
+    (λ u h. h
+    ∙ ap (λ n. next_tried setup c.args.compared n c.in_ok-start-in-Opening.start c.args.event) (ap (λ (r : Rules). r.initial) c.rules.view_is ∙ sym same.initial)
+    ∙ ap (λ θ. next_tried setup c.args.compared setup.initial θ c.args.event) (c.in_ok-start-in-Opening.ensures.value ∙ ap (λ (r : Rules). defaults r.space.params) c.rules.view_is ∙ sym same.start)
+    ∙ sym (ap (λ p. next setup c.args.compared p c.args.won c.args.event) c.in-Opening.is))
+    (c.next_tried.ensures c.args.pending.now c.args.event)
 
 pub returns-then-won : goal.returns-then-won
 returns-then-won c =
     let setup : Setup = setup_of c.args.rules.now in
     let present : Pending = Improving c.in-Improving.after c.in-Improving.left c.in-Improving.current c.in-Improving.neighbour c.in-Improving.rest in
     IfOk-weaker c.next_won.result _ _
-      (λ u h. h
-        ∙ sym (ap (λ p. next setup c.args.compared p c.args.won c.args.event) c.in-Improving.is
-          ∙ ap (λ b. next setup c.args.compared present b c.args.event) c.if-won.true))
-      (c.next_won.ensures c.args.pending.now c.args.event)
+    (λ u h. h
+    ∙ sym (ap (λ p. next setup c.args.compared p c.args.won c.args.event) c.in-Improving.is
+    ∙ ap (λ b. next setup c.args.compared present b c.args.event) c.if-won.true))
+    (c.next_won.ensures c.args.pending.now c.args.event)
 
 pub returns-else-won : goal.returns-else-won
 returns-else-won c =
     let setup : Setup = setup_of c.args.rules.now in
     let present : Pending = Improving c.in-Improving.after c.in-Improving.left c.in-Improving.current c.in-Improving.neighbour c.in-Improving.rest in
     IfOk-weaker c.next_along.result _ _
-      (λ u h. ap (λ p. upcoming_seen p c.args.event u) c.in-Improving.is ∙ h
-        ∙ sym (ap (λ p. next setup c.args.compared p c.args.won c.args.event) c.in-Improving.is
-          ∙ ap (λ b. next setup c.args.compared present b c.args.event) c.if-won.false))
-      (c.next_along.ensures c.in-Improving.neighbour)
+    (λ u h. ap (λ p. upcoming_seen p c.args.event u) c.in-Improving.is ∙ h
+    ∙ sym (ap (λ p. next setup c.args.compared p c.args.won c.args.event) c.in-Improving.is
+    ∙ ap (λ b. next setup c.args.compared present b c.args.event) c.if-won.false))
+    (c.next_along.ensures c.in-Improving.neighbour)

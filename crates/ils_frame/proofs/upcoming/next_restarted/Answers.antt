@@ -12,8 +12,8 @@ returns-then-restarts c = λ purpose e.
     let event : ℕ = c.args.event in
     let either : Bool → Next = λ b. if b then next_turn setup m c.args.more (setup.random (event + 1)) (event + 1 + 1) else next_turn setup m c.args.more c.args.best.now (event + 1) in
     IfOk-weaker c.next_turn.result _ _
-      (λ u h. h
-        ∙ ap (λ θ. next_turn setup m c.args.more θ (event + 2)) c.in_ok-anew.ensures.value
-        ∙ ap (λ n. next_turn setup m c.args.more (setup.random (event + 1)) n) (omega arith)
-        ∙ sym (ap either (sym c.restarts.ensures ∙ c.if-restarts.true)))
-      (c.next_turn.ensures purpose e)
+    (λ u h. h
+    ∙ ap (λ θ. next_turn setup m c.args.more θ (event + 2)) c.in_ok-anew.ensures.value
+    ∙ ap (λ n. next_turn setup m c.args.more (setup.random (event + 1)) n) (omega arith)
+    ∙ sym (ap either (sym c.restarts.ensures ∙ c.if-restarts.true)))
+    (c.next_turn.ensures purpose e)

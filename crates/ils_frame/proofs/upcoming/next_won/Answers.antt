@@ -11,8 +11,8 @@ returns c = λ purpose e.
     let m : ℕ = c.args.compared in
     let event : ℕ = c.args.event + 1 in
     IfOk-weaker c.improving.result _ _
-      (λ u h. h
-        ∙ ap (λ a. among a (next_after setup m a) c.args.left c.in_ok-current.current c.in_ok-around.around event) c.in_ok-after.ensures
-        ∙ ap (λ θ. among c.args.after.now (next_after setup m c.args.after.now) c.args.left θ c.in_ok-around.around event) c.in_ok-current.ensures
-        ∙ ap (λ xs. among c.args.after.now (next_after setup m c.args.after.now) c.args.left c.args.winner.now xs event) c.in_ok-around.ensures)
-      (c.improving.ensures purpose e)
+    (λ u h. h
+    ∙ ap (λ a. among a (next_after setup m a) c.args.left c.in_ok-current.current c.in_ok-around.around event) c.in_ok-after.ensures
+    ∙ ap (λ θ. among c.args.after.now (next_after setup m c.args.after.now) c.args.left θ c.in_ok-around.around event) c.in_ok-current.ensures
+    ∙ ap (λ xs. among c.args.after.now (next_after setup m c.args.after.now) c.args.left c.args.winner.now xs event) c.in_ok-around.ensures)
+    (c.improving.ensures purpose e)

@@ -1,0 +1,92 @@
+//! The begin of a comparison.
+ghost use Rattle.std.specs.Prelude.{◌≡◌, ◌==◌, ◌+◌, ◌≤◌, not, None, IfOk, [], if◌then◌else◌};
+ghost use Rattle.ils_face.specs.Rules.{AreRules};
+ghost use Rattle.ils_frame.specs.Answering.{machine_after};
+ghost use Rattle.ils_face.specs.Setups.{setup_of};
+ghost use Rattle.ils_frame.specs.Comparing.{question_in};
+ghost use Rattle.ils_frame.specs.Machine.{machine_of, begin as begin_next};
+ghost use Rattle.ils_frame.specs.Upcoming.{upcoming_seen};
+
+use crate::comparer::Comparer;
+use crate::pending::{Course, Pending, Stage};
+use crate::upcoming::{Upcoming, next};
+use ils_face::Rules;
+use objective::Memory;
+use param_space::Config;
+use std::alloc::Global;
+
+/// Begins a comparison where one is left in the budget, and says whether there was one.
+/// Takes no memory.
+fn begins<C: Comparer>(comparer: &mut C, rules: &Rules, first: Config, second: Config) -> bool
+    requires ready { question_in (C.parts.phase comparer.old) ≡ None }
+    requires within { (C.parts.last comparer.old).compared ≤ rules.now.budget }
+    ensures comparer { comparer.new ≡ (if (C.parts.last comparer.old).compared == rules.now.budget then comparer.old else C.parts.begun comparer.old first second ((C.parts.last comparer.old).compared + 1)) }
+    ensures left { result ≡ not ((C.parts.last comparer.old).compared == rules.now.budget) }
+{
+    let compared = comparer.compared();
+    if compared == rules.budget {
+        return false;
+    }
+    comparer.begin(first, second, compared + 1);
+    true
+}
+
+/// The next comparison begins, or the search is over. Takes no memory.
+pub(crate) fn begin<C: Comparer>(
+    comparer: &mut C,
+    course: &mut Course,
+    rules: &Rules,
+    upcoming: Upcoming,
+)
+    requires ready { question_in (C.parts.phase comparer.old) ≡ None }
+    requires within { (C.parts.last comparer.old).compared ≤ rules.now.budget }
+    ensures { machine_of comparer.new course.new ≡ begin_next C.parts (setup_of rules.now) comparer.old (upcoming_seen course.old.pending course.old.event upcoming) }
+{
+    match upcoming {
+        Upcoming::Along { first, second } => {
+            let pending = std::mem::replace(&mut course.pending, Pending::Opening);
+            course.pending = pending.advanced();
+            course.over = !begins(comparer, rules, first, second);
+        }
+        Upcoming::Begin {
+            pending,
+            first,
+            second,
+            event,
+        } => {
+            course.pending = pending;
+            course.event = event;
+            course.over = !begins(comparer, rules, first, second);
+        }
+        Upcoming::End { event } => {
+            course.pending = Pending::Opening;
+            course.event = event;
+            course.over = true;
+        }
+    }
+}
+
+/// The course of a search whose comparer was just opened: where nothing is asked, the first
+/// comparison begins.
+pub(crate) fn set_out<C: Comparer>(
+    alloc: Global,
+    rules: &Rules,
+    comparer: &mut C,
+) -> Result<Course, Memory>
+    requires opened { comparer.old ≡ C.at_open rules.now }
+    requires ruled { AreRules rules.now }
+    ensures { IfOk result (λ course. machine_of comparer.new course ≡ machine_after C.parts (C.at_open rules.now) rules.now []) }
+{
+    let mut course = Course {
+        pending: Pending::Opening,
+        event: 0,
+        over: false,
+    };
+    if comparer.stage() == Stage::Asking {
+        return Ok(course);
+    }
+    let compared = comparer.compared();
+    let upcoming = next(alloc, rules, compared, &course.pending, false, 0)?;
+    begin(comparer, &mut course, rules, upcoming);
+    Ok(course)
+}
