@@ -2,12 +2,7 @@
 ghost use Rattle.std.specs.Prelude.{◌≡◌, ◌≤◌, ◌<◌, ◌⊎◌, ℕ, IsTrue, All, List, Option, Some, IfSome, IsSome, length};
 ghost use Rattle.objective.specs.declared.Outcome.{Outcome};
 ghost use Rattle.outside.specs.Counts.{Rose};
-ghost use Rattle.objective.specs.Costs.{Table};
 ghost use Rattle.uncapped.specs.Procedure.{Finished};
-ghost use Rattle.uncapped.specs.Uncapped.{Basic, uncapped};
-ghost use Rattle.ils_face.specs.declared.rules.Rules.{Rules};
-ghost use Rattle.ils_face.specs.Setups.{setup_of};
-ghost use Rattle.ils_face.specs.Shown.{sums_under};
 ghost use Rattle.tuner.specs.Problem.{Problem as Stated, problem_of, Reads, Refused, uncapped_run};
 ghost use Rattle.tuner.specs.Promises.{taking_by, call_by, Ending, HasCause, Headline, IsComplete, RefusesUnread, RefusesUnseated, ReportsRefusal, Reported};
 ghost use Rattle.tuner.specs.Seats.{spawner_of, first_count, first_run};
@@ -21,7 +16,8 @@ use crate::saying::say;
 use crate::seat::Seat;
 use crate::status::Status;
 use crate::truth::Truth;
-use ils_face::Search;
+use basic_ils::Basic;
+use ils_frame::Ils;
 use objective::World;
 use outside::{Files, Sink, Spawner};
 use plain_text::Text;
@@ -61,7 +57,7 @@ fn refuse_seats<O: Sink>(alloc: Global, out: &mut O) -> Status
 ///
 /// `out` gets the lines; `log` gets nothing yet. The status says how it ended, and each
 /// answer but `NoMemory` has its cause in a clause.
-pub fn tune<R: Wait, P: Search, F: Files, O: Sink, S: Spawner + Send>(
+pub fn tune<R: Wait, F: Files, O: Sink, S: Spawner + Send>(
     rt: &R,
     alloc: Global,
     words: &[Text],
@@ -70,8 +66,7 @@ pub fn tune<R: Wait, P: Search, F: Files, O: Sink, S: Spawner + Send>(
     log: &mut O,
     seats: &mut [Seat<S>],
 ) -> Status
-    requires idle { All (λ seat. IsTrue (S.idle (spawner_of seat))) seats.old }
-    requires procedure { (rules : Rules) (T : Table) → P.plain rules T ≡ uncapped Basic (setup_of rules) (sums_under rules T) }
+    requires { All (λ seat. IsTrue (S.idle (spawner_of seat))) seats.old }
 
     // With Ok the output took the lines of the uncapped procedure, and nothing else.
     ensures headline { result ≡ Status.Ok → Headline (call_by words.now F.contents F.faults files.old files.new S.truth ⟦<Truth<S> as World>⟧.outcome S.faults S.failed_run seats.old seats.new) (taking_by O.taken O.faults O.empties out.old out.new) }
@@ -99,5 +94,5 @@ pub fn tune<R: Wait, P: Search, F: Files, O: Sink, S: Spawner + Send>(
     }
     let seat = &mut seats[0];
     seat.clear();
-    run_search::<R, P, O, S>(rt, alloc, &problem, out, &mut seat.spawner)
+    run_search::<R, Ils<Basic>, O, S>(rt, alloc, &problem, out, &mut seat.spawner)
 }
