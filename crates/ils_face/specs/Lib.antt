@@ -2,3 +2,4 @@ pub mod Rules
 pub mod Replies
 pub mod Setups
 pub mod Shown
+pub mod Tracing

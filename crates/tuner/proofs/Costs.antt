@@ -35,11 +35,11 @@ cost_seen-seen limits (outcome.Abort t) = aborting limits t (nat_le t.0 limits.c
 
 -- the cost of a run at a place, by the answer that it shows
 pub cost_of-run : (problem : Problem) (config : List ℕ) (place : ℕ) (outcome : Key → Outcome) (run : runs.Run) (a : Answer) (limits : Bounds) (r : Option ℕ)
-    → run ≡ run_at problem config place → a ≡ seen (outcome run.key) run.cutoff.0 → limits ≡ problem.limits → r ≡ cost_seen limits a
-    → cost_of problem.limits (outcome (key_at problem config place)) ≡ r
+    → run ≡ run_at problem config place → a ≡ seen (outcome run.key) run.cutoff.0 → limits ≡ problem.rules.limits → r ≡ cost_seen limits a
+    → cost_of problem.rules.limits (outcome (key_at problem config place)) ≡ r
 cost_of-run problem config place outcome run a limits r e f l h =
-    let shown : a ≡ seen (outcome (key_at problem config place)) problem.limits.cutoff = f ∙ ap (λ q. seen (outcome q.key) q.cutoff.0) e in
-    sym (h ∙ ap (λ b. cost_seen b a) l ∙ ap (cost_seen problem.limits) shown ∙ cost_seen-seen problem.limits (outcome (key_at problem config place)))
+    let shown : a ≡ seen (outcome (key_at problem config place)) problem.rules.limits.cutoff = f ∙ ap (λ q. seen (outcome q.key) q.cutoff.0) e in
+    sym (h ∙ ap (λ b. cost_seen b a) l ∙ ap (cost_seen problem.rules.limits) shown ∙ cost_seen-seen problem.rules.limits (outcome (key_at problem config place)))
 
 -- one more place
 pub total_cost-more : (limits : Bounds) (T : Table) (config : List ℕ) (n x y : ℕ) → total_cost limits T config n ≡ Some x → cost_of limits (T config (suc n)) ≡ Some y → total_cost limits T config (suc n) ≡ Some (x + y)

@@ -4,6 +4,7 @@ pub mod Settings
 pub mod Costs
 pub mod Taking
 pub mod Sayings
+pub mod Meetings
 pub mod RunsEnd
 pub mod Promised
 pub mod Endings

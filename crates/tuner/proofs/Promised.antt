@@ -1,44 +1,49 @@
 -- The promises of the top call follow from how it ended.
-use Rattle.std.proofs.Common.{ℕ, ◌≡◌, ◌≤◌, ◌⊎◌, List, Option, Some, refl, sym, ap, subst, ◌∙◌, inl, inr, arith}
+use Rattle.std.proofs.Common.{ℕ, ◌≡◌, ◌≤◌, ◌⊎◌, List, map, Option, Some, refl, sym, ap, subst, ◌∙◌, inl, inr, arith}
 use Rattle.std.specs.Prelude.{IfSome, IsSome}
 use Rattle.outside.specs.Counts.{Rose}
 use Rattle.outside.specs.Meanings.{after_taking}
-use Rattle.uncapped.specs.Procedure.{Finished, Aborted}
-use Rattle.uncapped.specs.Totals.{total_cost}
-use Rattle.uncapped.specs.Openings.{uncapped-known, uncapped-unknown}
-use Rattle.tuner.specs.Lines.{output_of}
-use Rattle.tuner.specs.Problem.{Problem, Reading, Reads, Refused, problem_of, setup_of}
+use Rattle.param_space.specs.declared.lists.Param.{Param}
+use Rattle.uncapped.specs.Procedure.{Incumbent, Finished, Aborted}
+use Rattle.uncapped.specs.Uncapped.{Run}
+use Rattle.tuner.specs.Lines.{all_lines, output_of}
+use Rattle.tuner.specs.Problem.{Problem, Reading, Reads, Refused, problem_of}
 use Rattle.tuner.specs.Promises as promises
 use Rattle.tuner.specs.Writing.{WroteBadly, failed, nothing_taken}
 use Rattle.tuner.specs.declared.status.Status.{Status}
 use Rattle.tuner.specs.declared.status.Status.TheVariants as status
 
+-- what is printed is the output of the run
+same_output : (params : List Param) (run : Run) (entries : List Incumbent) (last : Incumbent) → promises.RanTo run entries last → all_lines params entries last ≡ output_of params run
+same_output params run entries last ran =
+    ap (λ es. all_lines params es last) ran.all ∙ ap (all_lines params (map (λ added. added.entry) run.entries)) ran.end
+
 -- what the runs' end says of the answer, where it was written whole
 ran_cause : (call : promises.Call) (taking : promises.Taking) (problem : Problem) (end : Status) (text : List ℕ) → promises.States call problem → 1 ≤ call.seats
     → promises.EndsRunning call.running problem end text → taking.after ≡ after_taking taking.before text → promises.HasCause call taking end
-ran_cause call taking problem end text stated seated (promises.finished x e t cost) taken =
+ran_cause call taking problem end text stated seated (promises.finished entries last e t ran) taken =
     let P : Status → Type 0 = promises.HasCause call taking in
-    let run = λ (told : IsSome call.running.truth). uncapped-known (setup_of problem) (total_cost problem.limits (call.running.tables problem)) x (cost told) in
     let headline : promises.Headline call taking = record {
       problem = problem;
       stated = stated;
       seated = seated;
-      finished = λ told. ap (λ r. r.end) (run told);
-      printed = λ told. taken ∙ ap (after_taking taking.before) (t ∙ ap (output_of problem.params) (sym (run told)));
+      finished = λ told. (ran told).finished;
+      printed = λ told. taken ∙ ap (after_taking taking.before) (t ∙ same_output problem.rules.space.params _ entries last (ran told));
     } in
     subst P (sym e) headline
-ran_cause call taking problem end text stated seated (promises.aborted e t cost) taken =
+ran_cause call taking problem end text stated seated (promises.aborted e t ended) taken =
     let P : Status → Type 0 = promises.HasCause call taking in
-    let unbuilt : promises.IsUnbuilt call = promises.aborted problem stated seated
-    (λ told. uncapped-unknown (setup_of problem) (total_cost problem.limits (call.running.tables problem)) (cost told)) in
+    let unbuilt : promises.IsUnbuilt call = promises.aborted problem stated seated ended in
     subst P (sym e) unbuilt
-ran_cause call taking problem end text stated seated (promises.child_failed place e t inside run rose) taken =
+ran_cause call taking problem end text stated seated (promises.child_failed config place e t sound inside run rose) taken =
     let P : Status → Type 0 = promises.HasCause call taking in
     let fault : promises.IsChildFault call taking = record {
       problem = problem;
+      config = config;
       place = place;
       stated = stated;
       seated = seated;
+      sound = sound;
       in_range = inside;
       failed = run;
       rose = rose;

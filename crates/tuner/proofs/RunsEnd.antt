@@ -1,47 +1,63 @@
--- How the runs of the default settings end.
-use Rattle.std.proofs.Common.{ℕ, ◌≡◌, List, Option, Some, None, refl, ap, subst, ◌∙◌}
+-- How the runs of a search end.
+use Rattle.std.proofs.Common.{ℕ, ◌≡◌, List, Option, Some, None, refl, subst}
 use Rattle.std.specs.Prelude.{IsSome}
+use Rattle.objective.specs.Costs.{Table}
 use Rattle.objective.specs.declared.Outcome.{Outcome}
 use Rattle.outside.specs.declared.runs.Key.{Key}
 use Rattle.outside.specs.declared.runs.Run as runs
-use Rattle.outside.specs.Counts.{Rose}
-use Rattle.param_space.specs.Space.{defaults}
-use Rattle.uncapped.specs.Totals.{total_cost}
-use Rattle.uncapped.specs.Openings.{opening_run}
-use Rattle.tuner.specs.Evaluating.{IsPlace}
-use Rattle.tuner.specs.Lines.{output_of, child_fault_line}
-use Rattle.tuner.specs.Problem.{Problem, table_of, run_at, setup_of}
-use Rattle.tuner.specs.Promises.{Running, Taking, RunEnding, EndsRunning, finished, child_failed, no_memory, Reported, made, not_made}
+use Rattle.uncapped.specs.Procedure.{Aborted}
+use Rattle.uncapped.specs.Uncapped.{Run, Basic, uncapped}
+use Rattle.ils_face.specs.Rules.{Rules}
+use Rattle.ils_face.specs.Setups.{setup_of}
+use Rattle.ils_face.specs.Shown.{View, sums_under}
+use Rattle.ils_face.specs.Tracing.{IsFinal}
+use Rattle.tuner.specs.Lines.{all_lines, child_fault_line, unbuilt_line}
+use Rattle.tuner.specs.Meeting.{IsFailure}
+use Rattle.tuner.specs.Problem.{Problem, table_of, uncapped_run}
+use Rattle.tuner.specs.Promises.{Running, Taking, RanTo, RunEnding, EndsRunning, finished, aborted, child_failed, no_memory, Said, Reported, made, not_made}
 use Rattle.tuner.specs.declared.status.Status.{Status}
 use Rattle.tuner.specs.declared.status.Status.TheVariants as status
 
+-- the procedure is BasicILS over the total costs
+pub record IsBasic (plain : Rules → Table → Run) : Type 0 where
+  pub basic : (rules : Rules) (T : Table) → plain rules T ≡ uncapped Basic (setup_of rules) (sums_under rules T)
+
 -- what is known of each told truth is known of the truth
-pub told_cost : (truth : Option (Key → Outcome)) (problem : Problem) (config : List ℕ) (r : Option ℕ)
-    → ((outcome : Key → Outcome) → truth ≡ Some outcome → total_cost problem.limits (table_of (Some outcome) problem) config problem.max_runs ≡ r)
-    → IsSome truth → total_cost problem.limits (table_of truth problem) config problem.max_runs ≡ r
-told_cost None problem config r h some = absurd (cc)
-told_cost (Some outcome) problem config r h some = h outcome refl
+told_run : (truth : Option (Key → Outcome)) (problem : Problem) (P : Run → Type 0) (plain : Rules → Table → Run) → IsBasic plain
+    → ((outcome : Key → Outcome) → truth ≡ Some outcome → P (plain problem.rules (table_of (Some outcome) problem)))
+    → IsSome truth → P (uncapped_run problem (table_of truth problem))
+told_run None problem P plain basic h some = absurd (cc)
+told_run (Some outcome) problem P plain basic h some = subst P (basic.basic problem.rules (table_of (Some outcome) problem)) (h outcome refl)
 
 -- an end with its text, as it is reported
 reported : (running : Running) (problem : Problem) (taking : Taking) (result end : Status) (text : List ℕ) → EndsRunning running problem end text → Reported taking result end text → RunEnding running problem taking result
 reported running problem taking result end text ends (made said) = record { end = end; text = text; ends = ends; said = said }
 reported running problem taking result end text ends (not_made said) = record { end = status.NoMemory; text = _; ends = no_memory refl refl; said = said }
 
-pub run_finished : (truth : Option (Key → Outcome)) (f f' : ℕ) (failed : Option runs.Run) (problem : Problem) (taking : Taking) (result : Status) (config : List ℕ) (x : ℕ)
-    → config ≡ defaults problem.params
-    → ((outcome : Key → Outcome) → truth ≡ Some outcome → total_cost problem.limits (table_of (Some outcome) problem) config problem.max_runs ≡ Some x)
-    → Reported taking result status.Ok (output_of problem.params (opening_run (setup_of problem) x))
+ran_to : (view : View) (run : Run) → IsFinal view run → RanTo run view.entries view.last
+ran_to view run h = record { finished = h.finished; all = h.shows.entries; end = h.shows.last }
+
+pub run_finished : (truth : Option (Key → Outcome)) (f f' : ℕ) (failed : Option runs.Run) (problem : Problem) (taking : Taking) (result : Status)
+    (view : View) (plain : Rules → Table → Run) → IsBasic plain
+    → ((outcome : Key → Outcome) → truth ≡ Some outcome → IsFinal view (plain problem.rules (table_of (Some outcome) problem)))
+    → Reported taking result status.Ok (all_lines problem.rules.space.params view.entries view.last)
     → RunEnding (record { truth = truth; tables = table_of truth; faults = f; faults' = f'; failed_run = failed }) problem taking result
-run_finished truth f f' failed problem taking result config x e h said =
-    let P : List ℕ → Type 0 = λ θ. IsSome truth → total_cost problem.limits (table_of truth problem) θ problem.max_runs ≡ Some x in
-    let cost = subst P e (told_cost truth problem config (Some x) h) in
-    reported _ problem taking result status.Ok _ (finished x refl refl cost) said
+run_finished truth f f' failed problem taking result view plain basic h said =
+    let P : Run → Type 0 = λ run. IsFinal view run in
+    reported _ problem taking result status.Ok _ (finished view.entries view.last refl refl (λ told. ran_to view _ (told_run truth problem P plain basic h told))) said
+
+pub run_aborted : (truth : Option (Key → Outcome)) (f f' : ℕ) (failed : Option runs.Run) (problem : Problem) (taking : Taking) (result : Status)
+    (plain : Rules → Table → Run) → IsBasic plain
+    → ((outcome : Key → Outcome) → truth ≡ Some outcome → (plain problem.rules (table_of (Some outcome) problem)).end ≡ Aborted)
+    → Said taking status.Unbuilt result unbuilt_line
+    → RunEnding (record { truth = truth; tables = table_of truth; faults = f; faults' = f'; failed_run = failed }) problem taking result
+run_aborted truth f f' failed problem taking result plain basic h said =
+    let P : Run → Type 0 = λ run. run.end ≡ Aborted in
+    record { end = status.Unbuilt; text = _; ends = aborted refl refl (told_run truth problem P plain basic h); said = said }
 
 pub run_failed : (truth : Option (Key → Outcome)) (f f' : ℕ) (failed : Option runs.Run) (problem : Problem) (taking : Taking) (result : Status) (config : List ℕ) (place : ℕ)
-    → config ≡ defaults problem.params → IsPlace problem.max_runs place → Rose f f' → failed ≡ Some (run_at problem config place)
-    → Reported taking result (status.ChildFault 0) (child_fault_line problem.params place config)
+    → IsFailure problem f f' failed config place
+    → Reported taking result (status.ChildFault 0) (child_fault_line problem.rules.space.params place config)
     → RunEnding (record { truth = truth; tables = table_of truth; faults = f; faults' = f'; failed_run = failed }) problem taking result
-run_failed truth f f' failed problem taking result config place e inside rose h said =
-    let P : List ℕ → Type 0 = λ θ. Reported taking result (status.ChildFault 0) (child_fault_line problem.params place θ) in
-    reported _ problem taking result (status.ChildFault 0) _
-    (child_failed place refl refl inside (h ∙ ap (λ θ. Some (run_at problem θ place)) e) rose) (subst P e said)
+run_failed truth f f' failed problem taking result config place h said =
+    reported _ problem taking result (status.ChildFault 0) _ (child_failed config place refl refl h.sound h.in_range h.run h.rose) said

@@ -1,11 +1,13 @@
--- Two texts that are said one after the other.
-use Rattle.std.proofs.Common.{ℕ, ◌≡◌, ◌≤◌, ◌+◌, List, ◌++◌, Option, length, take, sym, ap, subst, ◌∙◌, arith, inl, inr, take_all}
+-- Texts that are said one after another.
+use Rattle.std.proofs.Common.{ℕ, suc, ◌≡◌, ◌≤◌, ◌<◌, ◌+◌, List, ◌∷◌, ◌++◌, Option, length, get_or, take, drop, sym, ap, subst, ◌∙◌, arith, append_assoc, inl, inr, take_all}
+use Rattle.std.specs.List.{flat_map}
 use Rattle.std.proofs.lemmas.Bool.{cases_lt}
-use Rattle.std.proofs.lemmas.List.{take-append-le}
-use Rattle.std.proofs.Math.Seq.{take-append_seam, take-append-add}
+use Rattle.std.proofs.lemmas.List.{take-append-le, take-append-drop}
+use Rattle.std.proofs.lemmas.List.Concat.{flat_map-append}
+use Rattle.std.proofs.Math.Seq.{take-append_seam, take-append-add, drop-cons}
 use Rattle.outside.specs.Meanings.{after_taking}
 use Rattle.tuner.specs.Writing.{TookPartOf, WroteBadly, failed, nothing_taken}
-use Rattle.tuner.specs.Promises.{Said, whole, unwritten, no_memory, Reported, made, Taking}
+use Rattle.tuner.specs.Promises.{Said, Reported, made, Taking}
 use Rattle.tuner.specs.declared.status.Status.{Status}
 use Rattle.tuner.proofs.Taking.{after_taking-append}
 
@@ -18,7 +20,7 @@ part_after before middle after first second e p = record {
 }
 
 -- a part of the first text
-pub part_before : (before after : Option (List ℕ)) (first second : List ℕ) → TookPartOf before after first → TookPartOf before after (first ++ second)
+part_before : (before after : Option (List ℕ)) (first second : List ℕ) → TookPartOf before after first → TookPartOf before after (first ++ second)
 part_before before after first second p =
     elim (cases_lt (length first) p.length) as (λ _. TookPartOf before after (first ++ second)) [
       | inl over ↦ record {
@@ -32,21 +34,21 @@ part_before before after first second p =
     ]
 
 -- a count that rose after an earlier count rose
-widened : (f f' f'' e e' e'' : ℕ) → f ≤ f' → e ≤ e' → WroteBadly f' f'' e' e'' → WroteBadly f f'' e e''
+pub widened : (f f' f'' e e' e'' : ℕ) → f ≤ f' → e ≤ e' → WroteBadly f' f'' e' e'' → WroteBadly f f'' e e''
 widened f f' f'' e e' e'' low low' (failed rose) = failed (omega arith)
 widened f f' f'' e e' e'' low low' (nothing_taken rose) = nothing_taken (omega arith)
 
--- the second text is said after the whole first
-pub said_after : (before middle after : Option (List ℕ)) (f f' f'' e e' e'' : ℕ) (end result : Status) (first second : List ℕ)
-    → middle ≡ after_taking before first → f ≤ f' → e ≤ e'
-    → Said (record { before = middle; after = after; faults = f'; faults' = f''; empties = e'; empties' = e'' }) end result second
-    → Said (record { before = before; after = after; faults = f; faults' = f''; empties = e; empties' = e'' }) end result (first ++ second)
-said_after before middle after f f' f'' e e' e'' end result first second h low low' (whole same taken) =
-    whole same (taken ∙ ap (λ m. after_taking m second) h ∙ after_taking-append before first second)
-said_after before middle after f f' f'' e e' e'' end result first second h low low' (unwritten same part bad) =
-    unwritten same (part_after before middle after first second h part) (widened f f' f'' e e' e'' low low' bad)
-said_after before middle after f f' f'' e e' e'' end result first second h low low' (no_memory same part) =
-    no_memory same (part_after before middle after first second h part)
+-- a part of a line, after the whole lines before it
+pub part_of_lines : {X : Type 0} (f : X → List ℕ) (xs : List X) (i : ℕ) (d : X) (before middle after : Option (List ℕ)) (line : List ℕ) → i < length xs
+    → line ≡ f (get_or xs i d) → middle ≡ after_taking before (flat_map f (take i xs)) → TookPartOf middle after line → TookPartOf before after (flat_map f xs)
+part_of_lines f xs i d before middle after line inside same taken part =
+    let rest = drop (suc i) xs in
+    let split : xs ≡ take i xs ++ get_or xs i d ∷ rest = sym (take-append-drop i xs) ∙ ap (λ ys. take i xs ++ ys) (drop-cons xs i d inside) in
+    let whole : flat_map f xs ≡ (flat_map f (take i xs) ++ line) ++ flat_map f rest =
+    ap (flat_map f) split ∙ flat_map-append f (take i xs) (get_or xs i d ∷ rest)
+    ∙ ap (λ l. flat_map f (take i xs) ++ (l ++ flat_map f rest)) (sym same) ∙ sym (append_assoc (flat_map f (take i xs)) line (flat_map f rest)) in
+    let P : List ℕ → Type 0 = λ t. TookPartOf before after t in
+    subst P (sym whole) (part_before before after _ (flat_map f rest) (part_after before middle after (flat_map f (take i xs)) line taken part))
 
 -- a text that is said is the one that was to be said
 pub said_as : (taking : Taking) (end result : Status) (line text : List ℕ) → line ≡ text → Said taking end result line → Reported taking result end text

@@ -6,7 +6,7 @@ use Rattle.outside.specs.declared.runs.Setting.{Setting}
 use Rattle.param_space.specs.declared.lists.Param.{Param}
 use Rattle.param_space.specs.Space.{Belongs}
 use Rattle.param_space.specs.Settings.{named_values}
-use Rattle.param_space.proofs.Belonging.{length-Belongs, read_value_in_range}
+use Rattle.param_space.specs.Belonging.{length-Belongs, read_value_in_range}
 use Rattle.param_space.proofs.Texts.{named_values-more}
 use Rattle.tuner.specs.Problem.{setting_from}
 

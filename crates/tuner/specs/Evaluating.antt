@@ -4,6 +4,11 @@ use Rattle.objective.specs.Bounds.{Bounds}
 use Rattle.objective.specs.Costs.{penalty}
 use Rattle.objective.specs.declared.Answer.{Answer}
 use Rattle.objective.specs.declared.Answer.TheVariants.{Solved, Timeout, Crashed, Abort}
+use Rattle.objective.specs.declared.Outcome.{Outcome}
+use Rattle.outside.specs.declared.runs.Key.{Key}
+use Rattle.uncapped.specs.Procedure.{Sums}
+use Rattle.uncapped.specs.Totals.{total_cost}
+use Rattle.tuner.specs.Problem.{Problem, table_of}
 use Rattle.tuner.specs.declared.evaluation.Evaluated.{Evaluated}
 use Rattle.tuner.specs.declared.evaluation.Evaluated.TheVariants as end
 
@@ -13,6 +18,10 @@ cost_seen limits (Solved t) = Some t.0
 cost_seen limits Timeout = Some (penalty limits)
 cost_seen limits Crashed = Some (penalty limits)
 cost_seen limits Abort = None
+
+-- the total costs of a problem's configurations, where the outcomes are told
+abbrev pub sums_of : Problem → (Key → Outcome) → Sums
+sums_of problem outcome = total_cost problem.rules.limits (table_of (Some outcome) problem)
 
 -- a place of a comparison, from 1
 pub record IsPlace (max_runs place : ℕ) : Type 0 where

@@ -1,10 +1,11 @@
 -- The lines that are printed.
-use Rattle.std.specs.Prelude.{ℕ, List, [], ◌∷◌, ◌++◌, codes}
+use Rattle.std.specs.Prelude.{ℕ, List, ◌++◌, map, codes}
+use Rattle.std.specs.List.{flat_map}
 use Rattle.std.specs.Fmt.{decimal}
 use Rattle.plain_text.specs.Decimals.{seconds}
 use Rattle.param_space.specs.declared.lists.Param.{Param}
 use Rattle.param_space.specs.Settings.{named_values, settings_text}
-use Rattle.uncapped.specs.Procedure.{Incumbent, Addition}
+use Rattle.uncapped.specs.Procedure.{Incumbent}
 use Rattle.uncapped.specs.Uncapped.{Run}
 
 -- the settings of a configuration, as they are printed
@@ -18,17 +19,20 @@ entry_line params entry =
     ++ (codes " " ++ (settings_of params entry.config ++ codes "\n"))))))
 
 -- the lines of the entries, oldest first
-abbrev pub entry_lines : List Param → List Addition → List ℕ
-entry_lines params [] = []
-entry_lines params (added ∷ later) = entry_line params added.entry ++ entry_lines params later
+abbrev pub entry_lines : List Param → List Incumbent → List ℕ
+entry_lines params entries = flat_map (entry_line params) entries
 
 -- the last line of a tuning that ended
 abbrev pub end_line : List Param → Incumbent → List ℕ
 end_line params last = codes "end " ++ entry_line params last
 
+-- the lines of these entries, and the last line
+abbrev pub all_lines : List Param → List Incumbent → Incumbent → List ℕ
+all_lines params entries last = entry_lines params entries ++ end_line params last
+
 -- all that a run of the procedure prints
 abbrev pub output_of : List Param → Run → List ℕ
-output_of params run = entry_lines params run.entries ++ end_line params run.last
+output_of params run = all_lines params (map (λ added. added.entry) run.entries) run.last
 
 abbrev pub unbuilt_line : List ℕ
 unbuilt_line = codes "unbuilt\n"

@@ -1,31 +1,30 @@
 -- What is tuned: the reading of words and files as a problem, and its runs.
 use Rattle.std.specs.Prelude.{ℕ, ◌*◌, ◌-◌, ◌%◌, List, [], length, map, Option, Some, None, if◌then◌else◌, codes}
 use Rattle.std.specs.List.{slice_index_or}
-use Rattle.objective.specs.Bounds.{Bounds}
 use Rattle.objective.specs.Costs.{Table}
 use Rattle.objective.specs.declared.Factor.TheVariants.{One}
 use Rattle.objective.specs.declared.Outcome.{Outcome}
 use Rattle.objective.specs.declared.Outcome.TheVariants.{Unsolved}
 use Rattle.param_space.specs.declared.lists.Param.{Param}
-use Rattle.param_space.specs.Space.{defaults}
 use Rattle.param_space.specs.Settings.{named_values}
 use Rattle.outside.specs.declared.runs.Program.{Program}
 use Rattle.outside.specs.declared.runs.Setting.{Setting}
 use Rattle.outside.specs.declared.runs.Key.{Key}
 use Rattle.outside.specs.declared.runs.Run as outside_run
 use Rattle.outside.specs.Runs.{blank_parted}
+use Rattle.uncapped.specs.Setup.{Setup}
 use Rattle.uncapped.specs.Totals.{total_cost}
-use Rattle.uncapped.specs.Uncapped.{Setup, Run, uncapped}
-use Rattle.tuner.specs.Reading.{Scenario, is_text, scenario_name, scenario_of, params_of, instances_of}
+use Rattle.uncapped.specs.Uncapped.{Run, Basic, uncapped}
+use Rattle.ils_face.specs.Rules.{Rules}
+use Rattle.ils_face.specs.Setups as setups
+use Rattle.tuner.specs.Reading.{Scenario, is_text, options_of, scenario_of, params_of, instances_of}
 use Rattle.tuner.specs.declared.status.FileKind.{FileKind}
 use Rattle.tuner.specs.declared.status.FileKind.TheVariants as kind
 
 pub record Problem : Type 0 where
   pub program : Program
-  pub params : List Param
+  pub rules : Rules  -- of the search
   pub instances : List (List ℕ)
-  pub max_runs : ℕ
-  pub limits : Bounds
 
 -- ---- the reading
 
@@ -64,32 +63,47 @@ text_in kind contents name = present kind (contents name) >>= text_from
 abbrev pub file_as : {A : Type 0} → FileKind → (List ℕ → Option A) → (List ℕ → Option (List ℕ)) → List ℕ → Reading A
 file_as kind read contents name = text_in kind contents name >>= λ text. accepted (read text)
 
--- a scenario with its parameters and instances as a problem
-abbrev pub problem_from : Scenario → List Param → List (List ℕ) → Problem
-problem_from scenario params instances = record {
-  program = record { words = blank_parted scenario.algo; dir = codes "."; cutoff_length = 2147483647 };
-  params = params;
-  instances = instances;
+-- the rules of the search, with the seed 0 and one worker
+abbrev pub rules_from : ℕ → Scenario → List Param → Rules
+rules_from budget scenario params = record {
+  space = record { params = params; conditions = []; forbidden = [] };
+  seed = 0;
   max_runs = scenario.runs;
+  budget = budget;
+  initial = scenario.initial;
+  strength = scenario.strength;
+  restart = scenario.restart;
   limits = record { cutoff = scenario.cutoff * 1000000; factor = One; floor = 1 };
+  workers = 1;
+}
+
+-- a budget and a scenario with its parameters and instances as a problem
+abbrev pub problem_from : ℕ → Scenario → List Param → List (List ℕ) → Problem
+problem_from budget scenario params instances = record {
+  program = record { words = blank_parted scenario.algo; dir = codes "."; cutoff_length = 2147483647 };
+  rules = rules_from budget scenario params;
+  instances = instances;
 }
 
 -- the scenario that the words name
 abbrev pub scenario_in : List (List ℕ) → (List ℕ → Option (List ℕ)) → Reading Scenario
 scenario_in words contents =
-    accepted (scenario_name words) >>= λ file. file_as kind.Scenario scenario_of contents file
+    accepted (options_of words) >>= λ options. file_as kind.Scenario scenario_of contents options.file
 
 -- the problem that the words and files state
 abbrev pub problem_of : List (List ℕ) → (List ℕ → Option (List ℕ)) → Reading Problem
 problem_of words contents = do
-  scenario ← scenario_in words contents
+  options ← accepted (options_of words)
+  scenario ← file_as kind.Scenario scenario_of contents options.file
   params ← file_as kind.Params params_of contents scenario.paramfile
   instances ← file_as kind.Instances instances_of contents scenario.instance_file
-  Reads (problem_from scenario params instances)
+  Reads (problem_from options.budget scenario params instances)
 
 -- the name of a file that is to be read, once the files before it have a reading
 abbrev pub file_name : List (List ℕ) → (List ℕ → Option (List ℕ)) → FileKind → Reading (List ℕ)
-file_name words contents kind.Scenario = accepted (scenario_name words)
+file_name words contents kind.Scenario = do
+  options ← accepted (options_of words)
+  Reads options.file
 file_name words contents kind.Params = do
   scenario ← scenario_in words contents
   Reads scenario.paramfile
@@ -106,7 +120,7 @@ setting_from s = record { name = s.0; value = s.1 }
 
 -- the settings of a configuration
 abbrev pub settings_at : Problem → List ℕ → List Setting
-settings_at problem config = map setting_from (named_values problem.params config)
+settings_at problem config = map setting_from (named_values problem.rules.space.params config)
 
 -- what a configuration's run at a place is of: place i has instance (i - 1) mod I and the seed i
 abbrev pub key_at : Problem → List ℕ → ℕ → Key
@@ -121,7 +135,7 @@ key_at problem config place = record {
 abbrev pub run_at : Problem → List ℕ → ℕ → outside_run.Run
 run_at problem config place = record {
   key = key_at problem config place;
-  cutoff = record { 0 = problem.limits.cutoff };
+  cutoff = record { 0 = problem.rules.limits.cutoff };
 }
 
 -- what each key does, where it is told; else nothing is solved
@@ -135,8 +149,8 @@ table_of truth problem config place = told_outcome truth (key_at problem config 
 
 -- what the uncapped procedure knows of a problem
 abbrev pub setup_of : Problem → Setup
-setup_of problem = record { start = defaults problem.params; max_runs = problem.max_runs }
+setup_of problem = setups.setup_of problem.rules
 
 -- the uncapped procedure over an outcome table
 abbrev pub uncapped_run : Problem → Table → Run
-uncapped_run problem table = uncapped (setup_of problem) (total_cost problem.limits table)
+uncapped_run problem table = uncapped Basic (setup_of problem) (total_cost problem.rules.limits table)

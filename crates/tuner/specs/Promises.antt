@@ -1,19 +1,17 @@
 -- How the top call ends: its causes, and what it leaves on its output.
-use Rattle.std.specs.Prelude.{ℕ, ◌≡◌, ◌<◌, ◌≤◌, ◌⊎◌, Bool, true, false, IsTrue, length, List, Option, Some, None, IfSome, IsSome}
+use Rattle.std.specs.Prelude.{ℕ, ◌≡◌, ◌<◌, ◌≤◌, ◌⊎◌, Bool, true, false, IsTrue, map, length, List, Option, Some, IfSome, IsSome}
 use Rattle.objective.specs.Costs.{Table}
 use Rattle.objective.specs.declared.Outcome.{Outcome}
 use Rattle.outside.specs.declared.runs.Key.{Key}
 use Rattle.outside.specs.declared.runs.Run as runs
 use Rattle.outside.specs.Counts.{Rose}
 use Rattle.outside.specs.Meanings.{after_taking}
-use Rattle.param_space.specs.Space.{defaults}
-use Rattle.uncapped.specs.Procedure.{Finished, Aborted}
-use Rattle.uncapped.specs.Totals.{total_cost}
+use Rattle.param_space.specs.Configurations.{IsConfig}
+use Rattle.uncapped.specs.Procedure.{Incumbent, Finished, Aborted}
 use Rattle.uncapped.specs.Uncapped.{Run}
-use Rattle.uncapped.specs.Openings.{opening_run}
 use Rattle.tuner.specs.Evaluating.{IsPlace}
-use Rattle.tuner.specs.Lines.{output_of, unbuilt_line, no_memory_line, read_fault_line, seats_line, child_fault_line}
-use Rattle.tuner.specs.Problem.{Reads, Refused, Problem, problem_of, run_at, setup_of, uncapped_run}
+use Rattle.tuner.specs.Lines.{output_of, all_lines, unbuilt_line, no_memory_line, read_fault_line, seats_line, child_fault_line}
+use Rattle.tuner.specs.Problem.{Reads, Refused, Problem, problem_of, run_at, uncapped_run}
 use Rattle.tuner.specs.Refusals.{IsNext}
 use Rattle.tuner.specs.Seats.{first_count, first_run}
 use Rattle.tuner.specs.Writing.{TookPartOf, WroteBadly}
@@ -67,18 +65,22 @@ States call problem = IfSome call.contents (λ contents. problem_of call.words c
 abbrev pub true_run : Running → Problem → Run
 true_run running problem = uncapped_run problem (running.tables problem)
 
--- the total cost of the default settings over the seats' truth
-abbrev pub true_cost : Running → Problem → Option ℕ
-true_cost running problem = total_cost problem.limits (running.tables problem) (defaults problem.params) problem.max_runs
+-- a run of the procedure finished with these entries and this last line
+pub record RanTo (run : Run) (entries : List Incumbent) (last : Incumbent) : Type 0 where
+  pub finished : run.end ≡ Finished
+  pub all : entries ≡ map (λ added. added.entry) run.entries
+  pub end : last ≡ run.last
 
 -- how the runs of a problem may end, with the whole text that is to be printed then
 pub data EndsRunning (running : Running) (problem : Problem) (end : Status) (text : List ℕ) : Type 0 where
-  finished : (x : ℕ) → end ≡ status.Ok → text ≡ output_of problem.params (opening_run (setup_of problem) x)
-      → (IsSome running.truth → true_cost running problem ≡ Some x) → EndsRunning running problem end text
+  finished : (entries : List Incumbent) (last : Incumbent) → end ≡ status.Ok → text ≡ all_lines problem.rules.space.params entries last
+      → (IsSome running.truth → RanTo (true_run running problem) entries last) → EndsRunning running problem end text
   aborted : end ≡ status.Unbuilt → text ≡ unbuilt_line
-      → (IsSome running.truth → true_cost running problem ≡ None) → EndsRunning running problem end text
-  child_failed : (place : ℕ) → end ≡ status.ChildFault 0 → text ≡ child_fault_line problem.params place (defaults problem.params)
-      → IsPlace problem.max_runs place → running.failed_run ≡ Some (run_at problem (defaults problem.params) place)
+      → (IsSome running.truth → (true_run running problem).end ≡ Aborted) → EndsRunning running problem end text
+  child_failed : (config : List ℕ) (place : ℕ) → end ≡ status.ChildFault 0
+      → text ≡ child_fault_line problem.rules.space.params place config
+      → IsConfig problem.rules.space config → IsPlace problem.rules.max_runs place
+      → running.failed_run ≡ Some (run_at problem config place)
       → Rose running.faults running.faults' → EndsRunning running problem end text
   no_memory : end ≡ status.NoMemory → text ≡ no_memory_line → EndsRunning running problem end text
 
@@ -152,7 +154,7 @@ pub record Headline (call : Call) (taking : Taking) : Type 0 where
   pub stated : States call problem
   pub seated : 1 ≤ call.seats
   pub finished : IsSome call.running.truth → (true_run call.running problem).end ≡ Finished
-  pub printed : IsSome call.running.truth → taking.after ≡ after_taking taking.before (output_of problem.params (true_run call.running problem))
+  pub printed : IsSome call.running.truth → taking.after ≡ after_taking taking.before (output_of problem.rules.space.params (true_run call.running problem))
 
 -- the causes of Unbuilt: words or files that are refused, or a child that aborts
 pub data IsUnbuilt (call : Call) : Type 0 where
@@ -165,16 +167,18 @@ pub record IsUnread (call : Call) (kind : FileKind) : Type 0 where
   pub next : IsNext call.words call.contents kind name
   pub rose : Rose call.reads_failed call.reads_failed'
 
--- the cause of ChildFault: the count of seat 0's spawner rose, and its failed run is the one whose place is printed
+-- the cause of ChildFault: the count of seat 0's spawner rose, and its failed run is the one whose place and settings are printed
 pub record IsChildFault (call : Call) (taking : Taking) : Type 0 where
   pub problem : Problem
+  pub config : List ℕ
   pub place : ℕ
   pub stated : States call problem
   pub seated : 1 ≤ call.seats
-  pub in_range : IsPlace problem.max_runs place
-  pub failed : call.running.failed_run ≡ Some (run_at problem (defaults problem.params) place)
+  pub sound : IsConfig problem.rules.space config
+  pub in_range : IsPlace problem.rules.max_runs place
+  pub failed : call.running.failed_run ≡ Some (run_at problem config place)
   pub rose : Rose call.running.faults call.running.faults'
-  pub printed : taking.after ≡ after_taking taking.before (child_fault_line problem.params place (defaults problem.params))
+  pub printed : taking.after ≡ after_taking taking.before (child_fault_line problem.rules.space.params place config)
 
 -- the cause of TooFewSeats: words and files state a problem, and there is no seat
 pub record IsTooFew (call : Call) (asked given : ℕ) : Type 0 where

@@ -1,5 +1,5 @@
 -- The accepted words and files, as lists of bytes.
-use Rattle.std.specs.Prelude.{ℕ, ◌-◌, ◌==◌, Bool, true, false, not, ◌&&◌, ◌||◌, List, [], ◌∷◌, length, nat_le, nat_lt, Option, Some, None, codes, bytes_eq, position}
+use Rattle.std.specs.Prelude.{ℕ, ◌-◌, ◌==◌, Bool, true, false, not, ◌&&◌, ◌||◌, List, [], ◌∷◌, length, nat_le, nat_lt, Option, Some, None, if◌then◌else◌, codes, bytes_eq, position}
 use Rattle.std.specs.List.{list_any, list_all, slice_index_or, slice_split}
 use Rattle.std.specs.Str.{is_utf8}
 use Rattle.plain_text.specs.Words.{is_blank, is_control, is_word}
@@ -25,22 +25,45 @@ abbrev pub all_some : {A B : Type 0} → (A → Option B) → List A → Option 
 all_some f [] = Some []
 all_some f (x ∷ xs) = f x >>= λ y. all_some f xs >>= λ ys. Some (y ∷ ys)
 
+-- ---- numbers
+
+-- a count in a range
+abbrev pub count_within : ℕ → ℕ → List ℕ → Option ℕ
+count_within low high text = count_of text >>= λ n. only_if (nat_le low n && nat_le n high) n
+
+-- four digits, as the count of ten-thousandths
+abbrev pub ten_thousandths : List ℕ → Option ℕ
+ten_thousandths digits = only_if (length digits == 4) digits >>= count_within 0 9999
+
+-- `0`, or `0.` and four digits, in ten-thousandths
+unfoldable pub share_of : List ℕ → Option ℕ
+share_of text = if bytes_eq text (codes "0") then Some 0 else (after_prefix (codes "0.") text >>= ten_thousandths)
+
 -- ---- the words
 
--- `-scenariofile F -maxComparisons 0` with a name F that isn't blank
-abbrev pub is_call : List ℕ → List ℕ → List ℕ → List ℕ → Bool
-is_call key file budget_key budget =
-    bytes_eq key (codes "-scenariofile") && (bytes_eq budget_key (codes "-maxComparisons")
-    && (bytes_eq budget (codes "0") && list_any (λ c. not (is_blank c)) file))
+-- the scenario file's name, and the comparisons of the tuning
+pub record Options : Type 0 where
+  pub file : List ℕ
+  pub budget : ℕ
 
--- the scenario file's name, where the words are those
-abbrev pub scenario_name : List (List ℕ) → Option (List ℕ)
-scenario_name [] = None
-scenario_name (a ∷ []) = None
-scenario_name (a ∷ b ∷ []) = None
-scenario_name (a ∷ b ∷ c ∷ []) = None
-scenario_name (key ∷ file ∷ budget_key ∷ budget ∷ []) = only_if (is_call key file budget_key budget) file
-scenario_name (a ∷ b ∷ c ∷ d ∷ e ∷ later) = None
+-- `-scenariofile F -maxComparisons M` with a name F that isn't blank, but for M
+abbrev pub is_call : List ℕ → List ℕ → List ℕ → Bool
+is_call key file budget_key =
+    bytes_eq key (codes "-scenariofile") && (bytes_eq budget_key (codes "-maxComparisons") && list_any (λ c. not (is_blank c)) file)
+
+-- the values of four words
+abbrev pub options_from : List ℕ → List ℕ → List ℕ → List ℕ → Option Options
+options_from key file budget_key budget =
+    only_if (is_call key file budget_key) budget >>= count_within 0 100000 >>= λ n. Some (record { file = file; budget = n })
+
+-- the values of the words `-scenariofile F -maxComparisons M`, where M is a count from 0 to 100,000
+abbrev pub options_of : List (List ℕ) → Option Options
+options_of [] = None
+options_of (a ∷ []) = None
+options_of (a ∷ b ∷ []) = None
+options_of (a ∷ b ∷ c ∷ []) = None
+options_of (key ∷ file ∷ budget_key ∷ budget ∷ []) = options_from key file budget_key budget
+options_of (a ∷ b ∷ c ∷ d ∷ e ∷ later) = None
 
 -- ---- a file
 
@@ -56,6 +79,9 @@ pub record Scenario : Type 0 where
   pub instance_file : List ℕ
   pub cutoff : ℕ  -- seconds
   pub runs : ℕ
+  pub initial : ℕ  -- the random configurations at first
+  pub strength : ℕ  -- the random steps of a perturbation
+  pub restart : ℕ  -- in ten-thousandths
 
 -- a value: not empty, no `#`, no control character, no blank at its ends
 abbrev pub is_value : List ℕ → Bool
@@ -67,16 +93,12 @@ is_value text =
 abbrev pub value_line : List ℕ → List ℕ → Option (List ℕ × List ℕ)
 value_line key text = after_prefix key text >>= parted 10
 
--- a count in a range
-abbrev pub count_within : ℕ → ℕ → List ℕ → Option ℕ
-count_within low high text = count_of text >>= λ n. only_if (nat_le low n && nat_le n high) n
-
--- what stands between the cutoff time and the number of pairs, and after it
+-- what stands between the cutoff time and the number of pairs
 abbrev pub runs_key : List ℕ
 runs_key = codes "cap_floor = 0.000001\napproach = basic\nN = "
 
-abbrev pub last_lines : List ℕ
-last_lines = codes "r = 0\ns = 1\np_restart = 0\npair_order = file\n"
+abbrev pub last_line : List ℕ
+last_line = codes "pair_order = file\n"
 
 pub record Names : Type 0 where
   pub algo : List ℕ
@@ -93,26 +115,51 @@ names_of text = do
   only_if ((is_value algo.0 && is_value params.0) && is_value instances.0)
       (record { algo = algo.0; paramfile = params.0; instance_file = instances.0; rest = instances.1 })
 
--- the cutoff time and the number of pairs in the other eight lines
-unfoldable pub numbers_of : List ℕ → Option (ℕ × ℕ)
-numbers_of text = do
+pub record RunNumbers : Type 0 where
+  pub cutoff : ℕ
+  pub runs : ℕ
+  pub rest : List ℕ
+
+-- the cutoff time and the number of pairs in the next four lines, and what follows them
+unfoldable pub run_numbers_of : List ℕ → Option RunNumbers
+run_numbers_of text = do
   time ← value_line (codes "cutoff_time = ") text
   runs ← value_line runs_key time.1
   cutoff ← count_within 1 1000000 time.0
   n ← count_within 1 10000 runs.0
-  only_if (bytes_eq runs.1 last_lines) (cutoff, n)
+  Some (record { cutoff = cutoff; runs = n; rest = runs.1 })
+
+pub record SearchNumbers : Type 0 where
+  pub initial : ℕ
+  pub strength : ℕ
+  pub restart : ℕ
+
+-- the numbers of the search in the last four lines
+unfoldable pub search_numbers_of : List ℕ → Option SearchNumbers
+search_numbers_of text = do
+  initial ← value_line (codes "r = ") text
+  strength ← value_line (codes "s = ") initial.1
+  restart ← value_line (codes "p_restart = ") strength.1
+  r ← count_within 0 1000 initial.0
+  s ← count_within 1 100 strength.0
+  p ← share_of restart.0
+  only_if (bytes_eq restart.1 last_line) (record { initial = r; strength = s; restart = p })
 
 -- the eleven lines of a scenario file, in order
 unfoldable pub scenario_of : List ℕ → Option Scenario
 scenario_of text = do
   names ← names_of text
-  numbers ← numbers_of names.rest
+  numbers ← run_numbers_of names.rest
+  search ← search_numbers_of numbers.rest
   Some (record {
     algo = names.algo;
     paramfile = names.paramfile;
     instance_file = names.instance_file;
-    cutoff = numbers.0;
-    runs = numbers.1;
+    cutoff = numbers.cutoff;
+    runs = numbers.runs;
+    initial = search.initial;
+    strength = search.strength;
+    restart = search.restart;
   })
 
 -- ---- the parameter file

@@ -1,13 +1,12 @@
 //! The evaluation of a configuration on all pairs, in full.
-ghost use Rattle.std.specs.Prelude.{◌≡◌, ◌≤◌, ◌*◌, IsTrue, Some, None, IfSome, option_map};
+ghost use Rattle.std.specs.Prelude.{◌≡◌, ◌≤◌, IsTrue, Some, None, IfSome, option_map};
 ghost use Rattle.objective.specs.Costs.{cost_of, IsWithin};
 ghost use Rattle.objective.specs.declared.Outcome.{Outcome};
 ghost use Rattle.outside.specs.Counts.{Rose};
 ghost use Rattle.outside.specs.declared.runs.Key.{Key};
 ghost use Rattle.param_space.specs.Space.{Belongs};
-ghost use Rattle.uncapped.specs.Totals.{total_cost};
 ghost use Rattle.tuner.specs.Problem.{table_of, run_at};
-ghost use Rattle.tuner.specs.Evaluating.{cost_seen, IfSum, OnAborted, IfFailed, IsPlace};
+ghost use Rattle.tuner.specs.Evaluating.{cost_seen, sums_of, IfSum, OnAborted, IfFailed, IsPlace};
 
 use crate::problem::Problem;
 use crate::running::{RunEnd, run_once};
@@ -57,13 +56,13 @@ fn cost_at<R: Wait, S: Spawner>(
     spawner: &mut S,
 ) -> Evaluated
     requires idle { IsTrue (S.idle spawner.old) }
-    requires belongs { Belongs problem.now.params config.now }
+    requires belongs { Belongs problem.now.rules.space.params config.now }
     requires first { 1 ≤ place }
     ensures idle { IsTrue (S.idle spawner.new) }
     ensures counts { S.faults spawner.old ≤ S.faults spawner.new }
-    ensures sum { IfSum result (λ x. (outcome : Key → Outcome) → S.truth ≡ Some outcome → cost_of problem.now.limits (table_of (Some outcome) problem.now config.now place) ≡ Some x) }
+    ensures sum { IfSum result (λ x. (outcome : Key → Outcome) → S.truth ≡ Some outcome → cost_of problem.now.rules.limits (table_of (Some outcome) problem.now config.now place) ≡ Some x) }
     ensures bound { IfSum result (λ x. x ≤ 1_000_000_000_000_000) }
-    ensures aborted { OnAborted result ((outcome : Key → Outcome) → S.truth ≡ Some outcome → cost_of problem.now.limits (table_of (Some outcome) problem.now config.now place) ≡ None) }
+    ensures aborted { OnAborted result ((outcome : Key → Outcome) → S.truth ≡ Some outcome → cost_of problem.now.rules.limits (table_of (Some outcome) problem.now config.now place) ≡ None) }
     ensures failed { IfFailed result (λ i. i ≡ place) }
     ensures fault { IfFailed result (λ i. Rose (S.faults spawner.old) (S.faults spawner.new)) }
     ensures failed_run { IfFailed result (λ i. S.failed_run spawner.new ≡ Some (run_at problem.now config.now place)) }
@@ -72,7 +71,7 @@ fn cost_at<R: Wait, S: Spawner>(
         return Evaluated::Memory;
     };
     match run_once(rt, alloc, spawner, &problem.program, &run) {
-        RunEnd::Answer(answer) => match cost_of_answer(answer, &problem.limits) {
+        RunEnd::Answer(answer) => match cost_of_answer(answer, &problem.rules.limits) {
             Some(cost) => Evaluated::Sum(cost),
             None => Evaluated::Aborted,
         },
@@ -81,27 +80,30 @@ fn cost_at<R: Wait, S: Spawner>(
     }
 }
 
-/// The total cost of a configuration on all pairs of a comparison, one run after another
-/// under the full cutoff. It may wait.
+/// The total cost of a configuration over the pairs 1 to n, one run after another under
+/// the full cutoff. It may wait.
 pub(crate) fn evaluate<R: Wait, S: Spawner>(
     rt: &R,
     alloc: Global,
     problem: &Problem,
     config: &Config,
+    n: u32,
     spawner: &mut S,
 ) -> Evaluated
     requires idle { IsTrue (S.idle spawner.old) }
-    requires belongs { Belongs problem.now.params config.now }
+    requires belongs { Belongs problem.now.rules.space.params config.now }
+    requires within { n ≤ problem.now.rules.max_runs }
     ensures idle { IsTrue (S.idle spawner.new) }
     ensures counts { S.faults spawner.old ≤ S.faults spawner.new }
-    ensures sum { IfSum result (λ x. (outcome : Key → Outcome) → S.truth ≡ Some outcome → total_cost problem.now.limits (table_of (Some outcome) problem.now) config.now problem.now.max_runs ≡ Some x) }
-    ensures aborted { OnAborted result ((outcome : Key → Outcome) → S.truth ≡ Some outcome → total_cost problem.now.limits (table_of (Some outcome) problem.now) config.now problem.now.max_runs ≡ None) }
-    ensures failed { IfFailed result (λ place. IsPlace problem.now.max_runs place) }
+    ensures sum { IfSum result (λ x. (outcome : Key → Outcome) → S.truth ≡ Some outcome → sums_of problem.now outcome config.now n ≡ Some x) }
+    ensures aborted { OnAborted result ((outcome : Key → Outcome) → S.truth ≡ Some outcome → sums_of problem.now outcome config.now n ≡ None) }
+    ensures failed { IfFailed result (λ place. IsPlace problem.now.rules.max_runs place) }
     ensures fault { IfFailed result (λ place. Rose (S.faults spawner.old) (S.faults spawner.new)) }
     ensures failed_run { IfFailed result (λ place. S.failed_run spawner.new ≡ Some (run_at problem.now config.now place)) }
 {
+    let _ = &problem.rules.max_runs; // its type keeps it in range
     let mut sum = Sum(0);
-    for done in 0..problem.max_runs {
+    for done in 0..n {
         match cost_at(rt, alloc, problem, config, done + 1, spawner) {
             Evaluated::Sum(cost) => sum = add(sum, cost),
             Evaluated::Aborted => return Evaluated::Aborted,

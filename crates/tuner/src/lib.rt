@@ -1,13 +1,15 @@
-//! The top call: it reads words and files, runs the default settings, and prints.
+//! The top call: it reads words and files, runs the search, and prints.
 #![tactic(auto)]
 
 mod evaluation;
 mod finishing;
 mod lines;
+mod meeting;
 mod problem;
 mod reading;
 mod running;
 mod saying;
+mod searching;
 mod seat;
 mod status;
 mod truth;

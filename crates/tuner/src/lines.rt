@@ -1,15 +1,18 @@
 //! The lines that are printed.
-ghost use Rattle.std.specs.Prelude.{◌≡◌, ◌++◌, ◌∷◌, [], IfOk, codes, string_bytes};
+ghost use Rattle.std.specs.Prelude.{◌≡◌, ◌++◌, ◌∷◌, [], All, IfOk, codes, string_bytes};
+ghost use Rattle.std.specs.List.{flat_map};
 ghost use Rattle.param_space.specs.Space.{Belongs};
-ghost use Rattle.tuner.specs.Lines.{entry_line as entry_text, read_fault_line as read_fault_text, seats_line as seats_text, child_fault_line as child_fault_text};
+ghost use Rattle.param_space.specs.Configurations.{IsConfig};
+ghost use Rattle.tuner.specs.Lines.{entry_line as entry_text, entry_lines as entry_texts, all_lines as all_texts, read_fault_line as read_fault_text, seats_line as seats_text, child_fault_line as child_fault_text};
 
+use ils_face::{Entry, Search};
 use objective::{Memory, Sum};
 use param_space::{Config, Space};
 use plain_text::push_seconds;
 use std::alloc::Global;
 
 /// An incumbent's line: its comparison number, its runs, its sum in seconds and its settings.
-pub(crate) fn entry_line(
+fn entry_line(
     alloc: Global,
     space: &Space,
     compared: u32,
@@ -24,18 +27,54 @@ pub(crate) fn entry_line(
     line.extend_from_slice(format!(in alloc; "{compared} {runs} ")?.as_bytes())?;
     push_seconds(alloc, &mut line, sum.0)?;
     line.push(b' ')?;
-    space.push_settings(alloc, config, &mut line)?;
+    space.push_settings(config, &mut line)?;
     line.push(b'\n')?;
     Ok(line)
 }
 
+/// The lines of these incumbents, oldest first.
+fn entry_lines(alloc: Global, space: &Space, entries: &[Entry]) -> Result<Vec<Vec<u8>>, Memory>
+    requires { All (λ e. IsConfig space.now e.config) entries.now }
+    ensures { IfOk result (λ lines. flat_map (λ line. line.items) lines.items ≡ entry_texts space.now.params entries.now) }
+{
+    let mut lines = Vec::new(alloc);
+    for e in entries {
+        lines.push(entry_line(alloc, space, e.compared, e.runs, e.sum, &e.config)?)?;
+    }
+    Ok(lines)
+}
+
 /// The last line of a tuning that ended: `end` and the incumbent's line.
-pub(crate) fn end_line(alloc: Global, entry: &[u8]) -> Result<Vec<u8>, Memory>
+fn end_line(alloc: Global, entry: &[u8]) -> Result<Vec<u8>, Memory>
     ensures { IfOk result (λ line. line.items ≡ codes "end " ++ entry.now) }
 {
     let mut line = Vec::from_slice(alloc, b"end ")?;
     line.extend_from_slice(entry)?;
     Ok(line)
+}
+
+/// All lines of a search that has ended: those of its incumbents, and the last line.
+pub(crate) fn all_lines<P: Search>(
+    alloc: Global,
+    space: &Space,
+    search: &P,
+) -> Result<Vec<Vec<u8>>, Memory>
+    requires entries { All (λ e. IsConfig space.now e.config) (P.shown (P.rules_of search.now) (P.replies_of search.now)).entries }
+    requires last { IsConfig space.now (P.shown (P.rules_of search.now) (P.replies_of search.now)).last.config }
+    ensures { IfOk result (λ lines. let view = P.shown (P.rules_of search.now) (P.replies_of search.now) in flat_map (λ line. line.items) lines.items ≡ all_texts space.now.params view.entries view.last) }
+{
+    let mut lines = entry_lines(alloc, space, search.entries())?;
+    let (runs, sum) = (search.incumbent_runs(), search.incumbent_sum());
+    let last = entry_line(
+        alloc,
+        space,
+        search.compared(),
+        runs,
+        sum,
+        search.incumbent(),
+    )?;
+    lines.push(end_line(alloc, last.as_slice())?)?;
+    Ok(lines)
 }
 
 /// The line of a failed read.
@@ -64,7 +103,7 @@ pub(crate) fn child_fault_line(
 {
     let mut line = Vec::new(alloc);
     line.extend_from_slice(format!(in alloc; "childfault {place} ")?.as_bytes())?;
-    space.push_settings(alloc, config, &mut line)?;
+    space.push_settings(config, &mut line)?;
     line.push(b'\n')?;
     Ok(line)
 }

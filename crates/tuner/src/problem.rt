@@ -4,33 +4,32 @@ ghost use Rattle.param_space.specs.Space.{Belongs, defaults};
 ghost use Rattle.param_space.specs.Settings.{named_values};
 ghost use Rattle.tuner.specs.Problem.{run_at as run_of, key_at as key_of, setting_from};
 
-use objective::{Limits, Memory};
+use ils_face::Rules;
+use objective::Memory;
 use outside::{Key, Program, Run, Setting};
-use param_space::{Config, Param, Space};
+use param_space::{Config, Param};
 use plain_text::{Items, Text};
 use std::alloc::Global;
 use std::marker::Model;
 
-/// A program with its parameter space, the instances, the number of pairs of a comparison
-/// and the limits of a run. Its type keeps that there is an instance and 1 to 10,000 pairs.
+/// A program, the rules of the search for its settings, and the instances. Its type keeps
+/// that there are 1 to 100,000 instances, and the rules' type that their numbers are in range.
 #[derive(Drop)]
 pub struct Problem {
     pub(crate) program: Program,
-    pub(crate) space: Space,
+    pub(crate) rules: Rules,
     pub(crate) instances: Items<Text>,
-    pub(crate) max_runs: u32,
-    pub(crate) limits: Limits,
 }
 
 impl Model for Problem {
     ghost use Rattle.tuner.specs.Problem as problem;
-    ghost use Rattle.tuner.specs.InRange.{IsProblem};
+    ghost use Rattle.tuner.specs.InRange.{AreInstances};
 
     ghost Value = { problem.Problem };
 
-    ghost view = { λ p. record { program = p.program; params = p.space.params; instances = p.instances; max_runs = p.max_runs; limits = p.limits } };
+    ghost view = { λ p. record { program = p.program; rules = p.rules; instances = p.instances } };
 
-    ghost invariant = { λ p. IsProblem p.instances p.max_runs };
+    ghost invariant = { λ p. AreInstances p.instances };
 }
 
 /// The settings of a configuration: each parameter's name with its value.
@@ -53,13 +52,13 @@ impl Problem {
     /// What a configuration's run at a place is of: the instance whose turn it is, and the
     /// place as the seed.
     fn key_at(&self, alloc: Global, config: &Config, place: u32) -> Result<Key, Memory>
-        requires belongs { Belongs self.now.params config.now }
+        requires belongs { Belongs self.now.rules.space.params config.now }
         requires first { 1 ≤ place }
         ensures { IfOk result (λ k. k ≡ key_of self.now config.now place) }
     {
         let instances = self.instances.as_slice();
         let turn = (place - 1) as usize % instances.len();
-        let settings = settings_of(alloc, self.space.params(), config.values())?;
+        let settings = settings_of(alloc, self.rules.space.params(), config.values())?;
         Ok(Key {
             instance: instances[turn].copy()?,
             specifics: Text::of(alloc, "0")?,
@@ -70,13 +69,13 @@ impl Problem {
 
     /// The run of a configuration at a place, from 1, under the full cutoff.
     pub(crate) fn run_at(&self, alloc: Global, config: &Config, place: u32) -> Result<Run, Memory>
-        requires belongs { Belongs self.now.params config.now }
+        requires belongs { Belongs self.now.rules.space.params config.now }
         requires first { 1 ≤ place }
         ensures { IfOk result (λ r. r ≡ run_of self.now config.now place) }
     {
         Ok(Run {
             key: self.key_at(alloc, config, place)?,
-            cutoff: self.limits.cutoff,
+            cutoff: self.rules.limits.cutoff,
         })
     }
 }

@@ -8,7 +8,7 @@ ghost use Rattle.tuner.specs.Promises.{taking_by, call_by, Ending, HasCause, Hea
 ghost use Rattle.tuner.specs.Seats.{spawner_of, first_count, first_run};
 ghost use Rattle.tuner.specs.Lines.{seats_line as seats_text};
 
-use crate::finishing::run_default;
+use crate::finishing::run_search;
 use crate::lines::{read_fault_line, seats_line};
 use crate::reading::problems::read_problem;
 use crate::reading::refusal::Refusal;
@@ -16,6 +16,8 @@ use crate::saying::say;
 use crate::seat::Seat;
 use crate::status::Status;
 use crate::truth::Truth;
+use basic_ils::Basic;
+use ils_frame::Ils;
 use objective::World;
 use outside::{Files, Sink, Spawner};
 use plain_text::Text;
@@ -50,8 +52,8 @@ fn refuse_seats<O: Sink>(alloc: Global, out: &mut O) -> Status
     }
 }
 
-/// Tunes: reads the words and the files that they name, runs the default settings on all
-/// pairs by the first seat, and prints one entry and the last line. It may wait.
+/// Tunes: reads the words and the files that they name, searches for the best settings by
+/// runs of the first seat, and prints each incumbent and the last line. It may wait.
 ///
 /// `out` gets the lines; `log` gets nothing yet. The status says how it ended, and each
 /// answer but `NoMemory` has its cause in a clause.
@@ -92,5 +94,5 @@ pub fn tune<R: Wait, F: Files, O: Sink, S: Spawner + Send>(
     }
     let seat = &mut seats[0];
     seat.clear();
-    run_default(rt, alloc, &problem, out, &mut seat.spawner)
+    run_search::<R, Ils<Basic>, O, S>(rt, alloc, &problem, out, &mut seat.spawner)
 }

@@ -2,7 +2,7 @@
 ghost use Rattle.std.specs.Prelude.{◌≡◌, ◌≤◌, length, IfOk, IfErr, IfSome};
 ghost use Rattle.outside.specs.Counts.{Rose};
 ghost use Rattle.tuner.specs.InRange.{AreInRange};
-ghost use Rattle.tuner.specs.Problem.{file_as, problem_of, problem_from as stated, Reads};
+ghost use Rattle.tuner.specs.Problem.{file_as, problem_of, rules_from as stated_rules, Reads};
 ghost use Rattle.tuner.specs.Reading.{params_of, instances_of};
 ghost use Rattle.tuner.specs.Refusals.{IsCause, IsFile, IsNext};
 ghost use Rattle.tuner.specs.Views.{scenario_seen};
@@ -13,9 +13,10 @@ use crate::reading::params::read_params;
 use crate::reading::refusal::Refusal;
 use crate::reading::scenario::{Scenario, read_scenario};
 use crate::reading::texts::read_text;
-use crate::reading::words::scenario_name;
+use crate::reading::words::read_options;
 use crate::status::FileKind;
-use objective::{Factor, Limits, Memory, Micros};
+use ils_face::Rules;
+use objective::{Factor, Limits, Micros};
 use outside::{Files, read_program};
 use param_space::Space;
 use plain_text::{Items, Text};
@@ -50,31 +51,28 @@ fn read_names<F: Files>(alloc: Global, files: &mut F, name: &str) -> Result<Vec<
     }
 }
 
-/// A scenario with its parameters and instances as a problem.
-fn problem_from(
-    alloc: Global,
-    scenario: &Scenario<'_>,
-    space: Space,
-    instances: Vec<Text>,
-) -> Result<Problem, Memory>
-    requires numbers { AreInRange scenario.now.cutoff scenario.now.runs }
-    requires some_instance { 1 ≤ length instances.items }
-    requires not_too_many { length instances.items ≤ 100000 }
-    ensures { IfOk result (λ p. p ≡ stated (scenario_seen scenario.now) space.params instances.items) }
+/// The rules of the search for a scenario's settings.
+fn rules_from(budget: u64, scenario: &Scenario<'_>, space: Space) -> Rules
+    requires budget { budget ≤ 100000 }
+    requires numbers { AreInRange (scenario_seen scenario.now) }
+    ensures { result ≡ stated_rules budget (scenario_seen scenario.now) space.params }
 {
-    let program = read_program(alloc, scenario.algo, ".", 2_147_483_647)?;
-    let limits = Limits {
-        cutoff: Micros(scenario.cutoff * 1_000_000),
-        factor: Factor::One,
-        floor: Micros(1),
-    };
-    Ok(Problem {
-        program,
+    let _ = space.params(); // so far there are no conditions and no forbidden clauses
+    Rules {
         space,
-        instances: Items::new(instances),
+        seed: 0,
         max_runs: scenario.runs as u32,
-        limits,
-    })
+        budget: budget as u32,
+        initial: scenario.initial as u32,
+        strength: scenario.strength as u32,
+        restart: scenario.restart as u16,
+        limits: Limits {
+            cutoff: Micros(scenario.cutoff * 1_000_000),
+            factor: Factor::One,
+            floor: Micros(1),
+        },
+        workers: 1,
+    }
 }
 
 /// The problem that the words and the files that they name state, or the first refusal in
@@ -90,14 +88,18 @@ pub(crate) fn read_problem<F: Files>(
     ensures read { IfOk result (λ p. IfSome (F.contents files.old) (λ contents. problem_of words.now contents ≡ Reads p)) }
     ensures refused { IfErr result (λ e. IsCause e (F.contents files.old) (problem_of words.now) (IsNext words.now (F.contents files.old)) (F.faults files.old) (F.faults files.new)) }
 {
-    let Some(file) = scenario_name(words) else {
+    let Some(options) = read_options(words) else {
         return Err(Refusal::Unbuilt);
     };
-    let text = read_text(alloc, files, FileKind::Scenario, file)?;
+    let text = read_text(alloc, files, FileKind::Scenario, options.file)?;
     let Some(scenario) = read_scenario(text.as_str()) else {
         return Err(Refusal::Unbuilt);
     };
     let space = read_space(alloc, files, scenario.paramfile)?;
     let instances = read_names(alloc, files, scenario.instance_file)?;
-    Ok(problem_from(alloc, &scenario, space, instances)?)
+    Ok(Problem {
+        program: read_program(alloc, scenario.algo, ".", 2_147_483_647)?,
+        rules: rules_from(options.budget, &scenario, space),
+        instances: Items::new(instances),
+    })
 }

@@ -1,12 +1,13 @@
 //! The scenario file in its plainest form.
-ghost use Rattle.std.specs.Prelude.{◌≡◌, ◌==◌, ◌||◌, ◌≤◌, ℕ, not, option_map, IfSome};
+ghost use Rattle.std.specs.Prelude.{◌≡◌, ◌==◌, ◌||◌, not, option_map, IfSome};
 ghost use Rattle.std.specs.List.{list_all};
 ghost use Rattle.plain_text.specs.Words.{is_control};
-ghost use Rattle.tuner.specs.Reading.{is_value as value, value_line as line_value, count_within as within_range, names_of as first_names, numbers_of as last_numbers, scenario_of};
-ghost use Rattle.tuner.specs.InRange.{AreInRange};
-ghost use Rattle.tuner.specs.Views.{names_seen, scenario_seen};
+ghost use Rattle.tuner.specs.Reading.{is_value as value, value_line as line_value, names_of as first_names, run_numbers_of as run_numbers, search_numbers_of as search_numbers, scenario_of};
+ghost use Rattle.tuner.specs.InRange.{AreInRange, AreRunsInRange, IsSearchInRange};
+ghost use Rattle.tuner.specs.Views.{names_seen, run_numbers_seen, search_numbers_seen, scenario_seen};
 
-use plain_text::{after_prefix, is_blank, parted, read_count};
+use crate::reading::counts::{count_within, share_of};
+use plain_text::{after_prefix, is_blank, parted};
 
 /// The values of a scenario file, as parts of its text.
 #[derive(Drop)]
@@ -21,6 +22,12 @@ pub(crate) struct Scenario<'a> {
     pub cutoff: u64,
     /// The number of pairs.
     pub runs: u64,
+    /// The random configurations at first.
+    pub initial: u64,
+    /// The random steps of a perturbation.
+    pub strength: u64,
+    /// How often the search restarts, in ten-thousandths.
+    pub restart: u64,
 }
 
 /// The values of the first three lines, and the text that follows them.
@@ -30,6 +37,22 @@ struct Names<'a> {
     paramfile: &'a str,
     instance_file: &'a str,
     rest: &'a str,
+}
+
+/// The cutoff time and the number of pairs, and the text that follows their lines.
+#[derive(Drop)]
+struct RunNumbers<'a> {
+    cutoff: u64,
+    runs: u64,
+    rest: &'a str,
+}
+
+/// The numbers of the search.
+#[derive(Clone, Copy, Debug)]
+struct SearchNumbers {
+    initial: u64,
+    strength: u64,
+    restart: u64,
 }
 
 /// The text after a key, up to the line's end, and what follows that line.
@@ -62,15 +85,6 @@ fn is_value(text: &str) -> bool
     }
 }
 
-/// A count in a range.
-fn count_within(low: u64, high: u64, text: &str) -> Option<u64>
-    ensures value { result ≡ within_range low high text.now }
-    ensures in_range { IfSome result (λ n. (low ≤ n) × (n ≤ high)) }
-{
-    let count = read_count(text.as_bytes())?;
-    (low <= count && count <= high).then_some(count)
-}
-
 /// The values of the first three lines.
 #[tactic(auto, unfolding(crate::specs::Reading::names_of))]
 fn names_of(text: &str) -> Option<Names<'_>>
@@ -90,17 +104,36 @@ fn names_of(text: &str) -> Option<Names<'_>>
     })
 }
 
-/// The cutoff time and the number of pairs in the other eight lines.
-#[tactic(auto, unfolding(crate::specs::Reading::numbers_of))]
-fn numbers_of(text: &str) -> Option<(u64, u64)>
-    ensures value { result ≡ last_numbers text.now }
-    ensures in_range { IfSome result (λ n. AreInRange n.0 n.1) }
+/// The cutoff time and the number of pairs in the next four lines.
+#[tactic(auto, unfolding(crate::specs::Reading::run_numbers_of))]
+fn run_numbers_of(text: &str) -> Option<RunNumbers<'_>>
+    ensures value { option_map run_numbers_seen result ≡ run_numbers text.now }
+    ensures in_range { IfSome result (λ n. AreRunsInRange n.cutoff n.runs) }
 {
     let (time, rest) = value_line("cutoff_time = ", text)?;
     let (runs, rest) = value_line("cap_floor = 0.000001\napproach = basic\nN = ", rest)?;
     let cutoff = count_within(1, 1_000_000, time)?;
     let runs = count_within(1, 10_000, runs)?;
-    (rest == "r = 0\ns = 1\np_restart = 0\npair_order = file\n").then_some((cutoff, runs))
+    Some(RunNumbers { cutoff, runs, rest })
+}
+
+/// The numbers of the search in the last four lines.
+#[tactic(auto, unfolding(crate::specs::Reading::search_numbers_of))]
+fn search_numbers_of(text: &str) -> Option<SearchNumbers>
+    ensures value { option_map search_numbers_seen result ≡ search_numbers text.now }
+    ensures in_range { IfSome result (λ n. IsSearchInRange n.initial n.strength n.restart) }
+{
+    let (initial, rest) = value_line("r = ", text)?;
+    let (strength, rest) = value_line("s = ", rest)?;
+    let (restart, rest) = value_line("p_restart = ", rest)?;
+    let initial = count_within(0, 1000, initial)?;
+    let strength = count_within(1, 100, strength)?;
+    let restart = share_of(restart)?;
+    (rest == "pair_order = file\n").then_some(SearchNumbers {
+        initial,
+        strength,
+        restart,
+    })
 }
 
 /// The eleven lines of a scenario file, in order. None exactly where the text isn't of
@@ -108,15 +141,19 @@ fn numbers_of(text: &str) -> Option<(u64, u64)>
 #[tactic(auto, unfolding(crate::specs::Reading::scenario_of))]
 pub(crate) fn read_scenario(text: &str) -> Option<Scenario<'_>>
     ensures value { option_map scenario_seen result ≡ scenario_of text.now }
-    ensures in_range { IfSome result (λ s. AreInRange s.cutoff s.runs) }
+    ensures in_range { IfSome result (λ s. AreInRange (scenario_seen s)) }
 {
     let names = names_of(text)?;
-    let (cutoff, runs) = numbers_of(names.rest)?;
+    let numbers = run_numbers_of(names.rest)?;
+    let search = search_numbers_of(numbers.rest)?;
     Some(Scenario {
         algo: names.algo,
         paramfile: names.paramfile,
         instance_file: names.instance_file,
-        cutoff,
-        runs,
+        cutoff: numbers.cutoff,
+        runs: numbers.runs,
+        initial: search.initial,
+        strength: search.strength,
+        restart: search.restart,
     })
 }

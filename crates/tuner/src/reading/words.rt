@@ -1,11 +1,21 @@
 //! The program's words.
-ghost use Rattle.std.specs.Prelude.{◌≡◌, not};
+ghost use Rattle.std.specs.Prelude.{◌≡◌, ◌≤◌, not, option_map, IfSome};
 ghost use Rattle.std.specs.List.{list_any};
-ghost use Rattle.std.specs.Option.{option_copied};
 ghost use Rattle.plain_text.specs.Words.{is_blank as blank};
-ghost use Rattle.tuner.specs.Reading.{is_call as call, scenario_name as named};
+ghost use Rattle.tuner.specs.Reading.{is_call as call, options_of};
+ghost use Rattle.tuner.specs.Views.{options_seen};
 
+use crate::reading::counts::count_within;
 use plain_text::{Text, is_blank};
+
+/// The values of the program's words.
+#[derive(Drop)]
+pub(crate) struct Options<'a> {
+    /// The scenario file's name.
+    pub file: &'a str,
+    /// The comparisons of the tuning.
+    pub budget: u64,
+}
 
 /// Whether some character is neither a space nor a tab.
 fn has_text(text: &str) -> bool
@@ -19,28 +29,29 @@ fn has_text(text: &str) -> bool
     false
 }
 
-/// Whether the words are `-scenariofile F -maxComparisons 0` with a name F that isn't blank.
-fn is_call(key: &str, file: &str, budget_key: &str, budget: &str) -> bool
-    ensures { result ≡ call key.now file.now budget_key.now budget.now }
+/// Whether the words are `-scenariofile F -maxComparisons` with a name F that isn't blank.
+fn is_call(key: &str, file: &str, budget_key: &str) -> bool
+    ensures { result ≡ call key.now file.now budget_key.now }
 {
-    key == "-scenariofile" && budget_key == "-maxComparisons" && budget == "0" && has_text(file)
+    key == "-scenariofile" && budget_key == "-maxComparisons" && has_text(file)
 }
 
-/// The scenario file's name. None exactly where the words aren't
-/// `-scenariofile F -maxComparisons 0` with a name F that isn't blank.
-pub(crate) fn scenario_name(words: &[Text]) -> Option<&str>
-    ensures { option_copied result ≡ named words.now }
+/// The values of the words. None exactly where they aren't
+/// `-scenariofile F -maxComparisons M` with a name F that isn't blank and a count M from
+/// 0 to 100,000.
+pub(crate) fn read_options(words: &[Text]) -> Option<Options<'_>>
+    ensures value { option_map options_seen result ≡ options_of words.now }
+    ensures in_range { IfSome result (λ o. o.budget ≤ 100000) }
 {
     let [key, file, budget_key, budget] = words else {
         return None;
     };
-    if !is_call(
-        key.as_str(),
-        file.as_str(),
-        budget_key.as_str(),
-        budget.as_str(),
-    ) {
+    if !is_call(key.as_str(), file.as_str(), budget_key.as_str()) {
         return None;
     }
-    Some(file.as_str())
+    let budget = count_within(0, 100_000, budget.as_str())?;
+    Some(Options {
+        file: file.as_str(),
+        budget,
+    })
 }

@@ -1,8 +1,7 @@
 use Rattle.std.proofs.Common.{◌≡◌, ◌≤◌, ◌*◌, true, Some}
 use Rattle.objective.specs.declared.Outcome.{Outcome}
 use Rattle.outside.specs.declared.runs.Key.{Key}
-use Rattle.uncapped.specs.Totals.{total_cost}
-use Rattle.tuner.specs.Problem.{table_of}
+use Rattle.tuner.specs.Evaluating.{sums_of}
 use Rattle.tuner.proofs.evaluation.evaluate.Given as goal
 
 -- the places so far cost this much
@@ -11,5 +10,5 @@ invariant-loop-done g l = record {
   idle : g.S.Spawner.idle l.spawner ≡ true;
   counts : g.S.Spawner.faults l.initial.spawner ≤ g.S.Spawner.faults l.spawner;
   bound : l.sum.0 ≤ l.done * 1000000000000000;
-  sum : (outcome : Key → Outcome) → g.S.Spawner.truth ≡ Some outcome → total_cost l.problem.limits (table_of (Some outcome) l.problem) l.config l.done ≡ Some l.sum.0;
+  sum : (outcome : Key → Outcome) → g.S.Spawner.truth ≡ Some outcome → sums_of l.problem outcome l.config l.done ≡ Some l.sum.0;
 }

@@ -1,6 +1,6 @@
 use Rattle.std.proofs.Common.{◌∙◌, ◌++◌, ◌∷◌, [], ap, take, arith, take_all, map}
 use Rattle.param_space.specs.Settings.{named_values}
-use Rattle.param_space.proofs.Belonging.{length-Belongs, read_value_in_range}
+use Rattle.param_space.specs.Belonging.{length-Belongs, read_value_in_range}
 use Rattle.tuner.specs.Problem.{setting_from}
 use Rattle.tuner.proofs.Settings.{setting_more}
 use Rattle.tuner.proofs.problem.settings_of.Goals as goal

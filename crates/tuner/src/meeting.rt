@@ -1,0 +1,114 @@
+//! How an ask is met: all its places are run, each under the full cutoff.
+ghost use Rattle.std.specs.Prelude.{◌≡◌, ◌≤◌, IsTrue, IsSomeAnd, Some};
+ghost use Rattle.objective.specs.declared.Outcome.{Outcome};
+ghost use Rattle.outside.specs.declared.runs.Key.{Key};
+ghost use Rattle.ils_face.specs.Replies.{Fits, asking, up_to};
+ghost use Rattle.ils_face.specs.Shown.{IsAsk, IsEvaluation};
+ghost use Rattle.ils_face.specs.Tracing.{question_of, IsReplyBy, IsUnknown};
+ghost use Rattle.tuner.specs.Evaluating.{sums_of};
+ghost use Rattle.tuner.specs.Meeting.{bound_of, question, IsFailure, IfReply, OnEnd, OnAbort, IfFault};
+
+use crate::evaluation::{Evaluated, evaluate};
+use crate::problem::Problem;
+use ils_face::{Ask, Reply};
+use objective::{Sum, at_most};
+use outside::Spawner;
+use param_space::Config;
+use std::alloc::Global;
+use std::sync::Wait;
+
+/// How an ask is met.
+#[derive(Drop)]
+pub(crate) enum Met {
+    /// All its runs were made, and this is the reply.
+    Reply(Reply),
+    /// It asks for nothing: the search has ended.
+    End,
+    /// A child asked for the end of the tuning.
+    Aborted,
+    /// The child of this configuration at this place, from 1, couldn't be started or
+    /// looked at.
+    Failed {
+        /// The configuration.
+        config: Config,
+        /// The place.
+        place: u32,
+    },
+    /// There is no memory left.
+    Memory,
+}
+
+/// The reply that a total cost gives, up to a bound.
+fn reply_up_to(sum: Sum, bound: Option<Sum>) -> Reply
+    ensures { result ≡ up_to sum.0 (bound_of bound) }
+{
+    match bound {
+        Some(bound) => {
+            if at_most(sum, bound) {
+                Reply::Exact(sum)
+            } else {
+                Reply::Exceeds
+            }
+        }
+        None => Reply::Exact(sum),
+    }
+}
+
+/// Runs a configuration at the places 1 to n, and replies with the total cost, up to a
+/// bound. It may wait.
+fn meet_question<R: Wait, S: Spawner>(
+    rt: &R,
+    alloc: Global,
+    problem: &Problem,
+    config: &Config,
+    n: u32,
+    bound: Option<Sum>,
+    spawner: &mut S,
+) -> Met
+    requires idle { IsTrue (S.idle spawner.old) }
+    requires evaluation { IsEvaluation problem.now.rules config.now n }
+    ensures idle { IsTrue (S.idle spawner.new) }
+    ensures counts { S.faults spawner.old ≤ S.faults spawner.new }
+    ensures fits { IfReply result (λ r. Fits (asking config.now n (bound_of bound)) r) }
+    ensures reply { IfReply result (λ r. (outcome : Key → Outcome) → S.truth ≡ Some outcome → IsReplyBy (sums_of problem.now outcome) r (question config.now n bound)) }
+    ensures aborted { OnAbort result ((outcome : Key → Outcome) → S.truth ≡ Some outcome → IsUnknown (sums_of problem.now outcome) (question config.now n bound)) }
+    ensures failed { IfFault result (λ θ place. IsFailure problem.now (S.faults spawner.old) (S.faults spawner.new) (S.failed_run spawner.new) θ place) }
+    ensures unended { OnEnd result ⊥ }
+{
+    match evaluate(rt, alloc, problem, config, n, spawner) {
+        Evaluated::Sum(sum) => Met::Reply(reply_up_to(sum, bound)),
+        Evaluated::Aborted => Met::Aborted,
+        Evaluated::Failed { place } => match config.copy() {
+            Ok(config) => Met::Failed { config, place },
+            Err(_) => Met::Memory,
+        },
+        Evaluated::Memory => Met::Memory,
+    }
+}
+
+/// Meets an ask of a search. It may wait.
+pub(crate) fn meet<R: Wait, S: Spawner>(
+    rt: &R,
+    alloc: Global,
+    problem: &Problem,
+    ask: &Ask,
+    spawner: &mut S,
+) -> Met
+    requires idle { IsTrue (S.idle spawner.old) }
+    requires ask { IsAsk problem.now.rules ask.now }
+    ensures idle { IsTrue (S.idle spawner.new) }
+    ensures counts { S.faults spawner.old ≤ S.faults spawner.new }
+    ensures fits { IfReply result (λ r. Fits ask.now r) }
+    ensures reply { IfReply result (λ r. (outcome : Key → Outcome) → S.truth ≡ Some outcome → IsSomeAnd (question_of ask.now) (IsReplyBy (sums_of problem.now outcome) r)) }
+    ensures end { OnEnd result (ask.now ≡ Ask.End) }
+    ensures aborted { OnAbort result ((outcome : Key → Outcome) → S.truth ≡ Some outcome → IsSomeAnd (question_of ask.now) (IsUnknown (sums_of problem.now outcome))) }
+    ensures failed { IfFault result (λ θ place. IsFailure problem.now (S.faults spawner.old) (S.faults spawner.new) (S.failed_run spawner.new) θ place) }
+{
+    match ask {
+        Ask::Full { config, n } => meet_question(rt, alloc, problem, config, *n, None, spawner),
+        Ask::Versus { config, n, bound } => {
+            meet_question(rt, alloc, problem, config, *n, Some(*bound), spawner)
+        }
+        Ask::End => Met::End,
+    }
+}
