@@ -1,6 +1,6 @@
 -- Asks and replies: which replies fit, and what a table's total costs reply.
-use Rattle.std.specs.Prelude.{ℕ, ◌-◌, ◌≤◌, List, Option, Some, None, nat_le, if◌then◌else◌, slice_get, take, length, filter, map}
-use Rattle.uncapped.specs.Procedure.{Settings, Sums, Question, Incumbent, Addition, End, Finished, Aborted}
+use Rattle.std.specs.Prelude.{ℕ, ◌-◌, ◌≤◌, List, Option, Some, None, nat_le, if◌then◌else◌, slice_get, take, filter, map}
+use Rattle.uncapped.specs.Procedure.{Settings, Sums, Question, Incumbent, End, Finished, Aborted}
 use Rattle.uncapped.specs.Uncapped.{Run, or_nothing}
 use Rattle.ils_face.specs.declared.asks.Ask.{Ask}
 use Rattle.ils_face.specs.declared.asks.Ask.TheVariants.{Full, Versus, End as Over}

@@ -1,5 +1,5 @@
 -- What a search shows, and what it promises.
-use Rattle.std.specs.Prelude.{ℕ, ◌+◌, ◌≤◌, ◌<◌, ◌≡◌, ◌++◌, ◌⊎◌, All, List, [], ◌∷◌, Option, Some, None, IsSome, IfSome, map, length, slice_get}
+use Rattle.std.specs.Prelude.{ℕ, ◌≤◌, ◌<◌, ◌≡◌, ◌++◌, ◌⊎◌, All, List, [], ◌∷◌, None, IsSome, IfSome, map, length, slice_get}
 use Rattle.objective.specs.Costs.{Table}
 use Rattle.param_space.specs.Configurations.{IsConfig}
 use Rattle.uncapped.specs.Procedure.{Settings, Sums, Incumbent, Finished, Aborted}
