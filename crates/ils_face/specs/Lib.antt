@@ -3,3 +3,4 @@ pub mod Replies
 pub mod Setups
 pub mod Shown
 pub mod Tracing
+pub mod Quiet
