@@ -3,4 +3,6 @@
 #![tactic(auto)]
 
 #[cfg(test)]
+mod searches;
+#[cfg(test)]
 mod tests;

@@ -51,13 +51,13 @@ impl Table for Unlucky {
     }
 }
 
-const SCENARIO: &str =
+pub(crate) const SCENARIO: &str =
     "algo = w\nparamfile = p\ninstance_file = i\ncutoff_time = 10\ncap_floor = 0.000001\napproach = basic\nN = 2\nr = 0\ns = 1\np_restart = 0\npair_order = file\n";
 
 const WORDS: [&str; 4] = ["-scenariofile", "s", "-maxComparisons", "0"];
 
 /// The words as texts.
-fn texts(alloc: Global, words: &[&str]) -> Result<Vec<Text>, Memory> {
+pub(crate) fn texts(alloc: Global, words: &[&str]) -> Result<Vec<Text>, Memory> {
     let mut texts = Vec::new(alloc);
     for word in words {
         texts.push(Text::of(alloc, word)?)?;
@@ -66,7 +66,7 @@ fn texts(alloc: Global, words: &[&str]) -> Result<Vec<Text>, Memory> {
 }
 
 /// The three files of the example.
-fn folder(alloc: Global) -> Result<MemoryFiles, Memory> {
+pub(crate) fn folder(alloc: Global) -> Result<MemoryFiles, Memory> {
     let mut files = MemoryFiles::new(alloc);
     files.put("s", SCENARIO.as_bytes())?;
     files.put("p", b"x {a, b} [a]\n")?;
@@ -80,7 +80,7 @@ fn numbers(alloc: Global, numbers: &[u32]) -> Result<Items<u32>, Memory> {
 }
 
 /// A script without faults, under which the first two children are looked at more than once.
-fn quiet(alloc: Global) -> Result<Script, Memory> {
+pub(crate) fn quiet(alloc: Global) -> Result<Script, Memory> {
     Ok(Script {
         pending: numbers(alloc, &[3, 1])?,
         bad_starts: numbers(alloc, &[])?,

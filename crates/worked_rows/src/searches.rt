@@ -1,0 +1,194 @@
+//! Searches of the values a and b on two pairs. The values are those of the worked rows of
+//! BasicILS among the definitions of the procedure.
+ghost use Rattle.std.specs.Prelude.{◌≡◌, ◌≤◌};
+ghost use Rattle.worked_rows.specs.Rows.{has_b as is_b, by_pair as of_pair, solved as solved_after, against as outcome_against};
+
+use crate::tests::{SCENARIO, folder, quiet, texts};
+use objective::{Memory, Micros, Outcome};
+use outside::{Key, MemorySink, Setting, Table, TableSeat};
+use std::alloc::Global;
+use std::sync::Wait;
+use std::test::Fail;
+use tuner::{Seat, Status, tune};
+
+/// Whether the first setting has the value b.
+fn has_b(settings: &[Setting]) -> bool
+    ensures { result ≡ is_b settings.now }
+{
+    match settings {
+        [] => false,
+        [first, ..] => first.value.as_str() == "b",
+    }
+}
+
+/// The outcome on the first pair or on the second.
+fn by_pair(seed: u32, first: Outcome, second: Outcome) -> Outcome
+    ensures { result ≡ of_pair seed first second }
+{
+    if seed == 1 { first } else { second }
+}
+
+/// Solved after so many seconds.
+fn solved(seconds: u64) -> Outcome
+    requires { seconds ≤ 10 }
+    ensures { result ≡ solved_after seconds }
+{
+    Outcome::Solved(Micros(seconds * 1_000_000))
+}
+
+/// The outcome where a is solved after 3 and 4 seconds, and b does this.
+fn against(key: &Key, first: Outcome, second: Outcome) -> Outcome
+    ensures { result ≡ outcome_against first second key.now }
+{
+    if has_b(key.settings.as_slice()) {
+        by_pair(key.seed, first, second)
+    } else {
+        by_pair(key.seed, solved(3), solved(4))
+    }
+}
+
+/// b costs 2 and 9 seconds.
+struct Worse;
+
+impl Table for Worse {
+    ghost use Rattle.worked_rows.specs.Rows.{solved as solved_after, against as outcome_against};
+
+    ghost outcome = { outcome_against (solved_after 2) (solved_after 9) };
+
+    fn outcome(key: &Key) -> Outcome {
+        against(key, solved(2), solved(9))
+    }
+}
+
+/// b costs 2 and 5 seconds.
+struct AsGood;
+
+impl Table for AsGood {
+    ghost use Rattle.worked_rows.specs.Rows.{solved as solved_after, against as outcome_against};
+
+    ghost outcome = { outcome_against (solved_after 2) (solved_after 5) };
+
+    fn outcome(key: &Key) -> Outcome {
+        against(key, solved(2), solved(5))
+    }
+}
+
+/// b costs 2 and 4 seconds.
+struct Better;
+
+impl Table for Better {
+    ghost use Rattle.worked_rows.specs.Rows.{solved as solved_after, against as outcome_against};
+
+    ghost outcome = { outcome_against (solved_after 2) (solved_after 4) };
+
+    fn outcome(key: &Key) -> Outcome {
+        against(key, solved(2), solved(4))
+    }
+}
+
+/// b asks for the end of the tuning on the first pair.
+struct AbortsFirst;
+
+impl Table for AbortsFirst {
+    ghost use Rattle.objective.specs.declared.Outcome.TheVariants.{Abort};
+    ghost use Rattle.worked_rows.specs.Rows.{solved as solved_after, against as outcome_against};
+
+    ghost outcome = { outcome_against (Abort (record { 0 = 1000000 })) (solved_after 1) };
+
+    fn outcome(key: &Key) -> Outcome {
+        against(key, Outcome::Abort(Micros(1_000_000)), solved(1))
+    }
+}
+
+/// How a tuning of this scenario with this budget ends, what it prints, and how many
+/// children it starts.
+fn tuned<R: Wait, T: Table + Send>(
+    rt: &R,
+    alloc: Global,
+    scenario: &str,
+    budget: &str,
+) -> Result<(Status, MemorySink, usize), Memory> {
+    let words = texts(alloc, &["-scenariofile", "s", "-maxComparisons", budget])?;
+    let mut files = folder(alloc)?;
+    files.put("s", scenario.as_bytes())?;
+    let (mut out, mut log) = (MemorySink::new(alloc), MemorySink::new(alloc));
+    let mut seats = [Seat::new(TableSeat::<T>::new(alloc, quiet(alloc)?)?)];
+    let status = tune(
+        rt,
+        alloc,
+        words.as_slice(),
+        &mut files,
+        &mut out,
+        &mut log,
+        &mut seats,
+    );
+    Ok((status, out, seats[0].spawner().starts().len()))
+}
+
+/// The first seven lines of a scenario.
+const HEAD: &str =
+    "algo = w\nparamfile = p\ninstance_file = i\ncutoff_time = 10\ncap_floor = 0.000001\napproach = basic\nN = 2\n";
+
+#[test]
+fn better_settings_become_the_incumbent(rt: HostRuntime) -> Result<(), Fail> {
+    let (status, out, starts) = tuned::<_, Better>(&rt, rt.alloc(), SCENARIO, "2")?;
+    assert_eq!(rt; status, Status::Ok);
+    assert_eq!(rt;
+        out.bytes(),
+        b"0 2 7.000000 x=a\n1 2 6.000000 x=b\nend 2 2 6.000000 x=b\n".as_slice()
+    );
+    assert_eq!(rt; starts, 10);
+    Ok(())
+}
+
+#[test]
+fn worse_settings_and_ties_leave_the_incumbent(rt: HostRuntime) -> Result<(), Fail> {
+    let (status, out, starts) = tuned::<_, Worse>(&rt, rt.alloc(), SCENARIO, "1")?;
+    assert_eq!(rt; status, Status::Ok);
+    assert_eq!(rt;
+        out.bytes(),
+        b"0 2 7.000000 x=a\nend 1 2 7.000000 x=a\n".as_slice()
+    );
+    assert_eq!(rt; starts, 6);
+    let (status, out, starts) = tuned::<_, AsGood>(&rt, rt.alloc(), SCENARIO, "2")?;
+    assert_eq!(rt; status, Status::Ok);
+    assert_eq!(rt;
+        out.bytes(),
+        b"0 2 7.000000 x=a\nend 2 2 7.000000 x=a\n".as_slice()
+    );
+    assert_eq!(rt; starts, 10);
+    Ok(())
+}
+
+#[test]
+fn an_abort_in_a_comparison_ends_the_search(rt: HostRuntime) -> Result<(), Fail> {
+    let (status, out, starts) = tuned::<_, AbortsFirst>(&rt, rt.alloc(), SCENARIO, "1")?;
+    assert_eq!(rt; status, Status::Unbuilt);
+    assert_eq!(rt; out.bytes(), b"unbuilt\n".as_slice());
+    assert_eq!(rt; starts, 5);
+    Ok(())
+}
+
+#[test]
+fn numbers_of_the_search_have_their_forms(rt: HostRuntime) -> Result<(), Fail> {
+    let alloc = rt.alloc();
+    for (numbers, budget, code) in [
+        ("r = 1000\ns = 100\np_restart = 0.9999\n", "0", 0),
+        ("r = 0\ns = 1\np_restart = 0.0000\n", "00", 0),
+        ("r = 1001\ns = 1\np_restart = 0\n", "0", 10),
+        ("r = 0\ns = 0\np_restart = 0\n", "0", 10),
+        ("r = 0\ns = 101\np_restart = 0\n", "0", 10),
+        ("r = 0\ns = 1\np_restart = 0.01\n", "0", 10),
+        ("r = 0\ns = 1\np_restart = 0.00100\n", "0", 10),
+        ("r = 0\ns = 1\np_restart = 0.1e-1\n", "0", 10),
+        ("r = 0\ns = 1\np_restart = 1\n", "0", 10),
+        ("r = 0\ns = 1\np_restart = 0\n", "100001", 10),
+        ("r = 0\ns = 1\np_restart = 0\n", "-1", 10),
+        ("r = 0\ns = 1\np_restart = 0\n", "", 10),
+    ] {
+        let scenario = format!(in alloc; "{HEAD}{numbers}pair_order = file\n")?;
+        let (status, _, _) = tuned::<_, Better>(&rt, alloc, scenario.as_str(), budget)?;
+        assert_eq!(rt; status.code(), code, "{numbers}: {budget}");
+    }
+    Ok(())
+}
