@@ -86,6 +86,32 @@ impl Table for Better {
     }
 }
 
+/// b costs 8 seconds and 1 second.
+struct WorseAtOnce;
+
+impl Table for WorseAtOnce {
+    ghost use Rattle.worked_rows.specs.Rows.{solved as solved_after, against as outcome_against};
+
+    ghost outcome = { outcome_against (solved_after 8) (solved_after 1) };
+
+    fn outcome(key: &Key) -> Outcome {
+        against(key, solved(8), solved(1))
+    }
+}
+
+/// Each run costs nothing.
+struct Free;
+
+impl Table for Free {
+    ghost use Rattle.worked_rows.specs.Rows.{solved as solved_after};
+
+    ghost outcome = { λ key. solved_after 0 };
+
+    fn outcome(_key: &Key) -> Outcome {
+        solved(0)
+    }
+}
+
 /// b asks for the end of the tuning on the first pair.
 struct AbortsFirst;
 
@@ -129,34 +155,81 @@ fn tuned<R: Wait, T: Table + Send>(
 const HEAD: &str =
     "algo = w\nparamfile = p\ninstance_file = i\ncutoff_time = 10\ncap_floor = 0.000001\napproach = basic\nN = 2\n";
 
+/// Whether tunings with budgets from 0 to 5 are Ok, print these entries and last lines, and
+/// start two children for the opening evaluation and four for each comparison.
+fn is_printed<R: Wait, T: Table + Send>(
+    rt: &R,
+    alloc: Global,
+    rows: &[(&str, &str)],
+) -> Result<bool, Memory> {
+    for (budget, (entries, last)) in rows.iter().enumerate() {
+        let words = format!(in alloc; "{budget}")?;
+        let (status, out, starts) = tuned::<_, T>(rt, alloc, SCENARIO, words.as_str())?;
+        let printed = format!(in alloc; "{entries}end {budget} {last}\n")?;
+        if status != Status::Ok || out.bytes() != printed.as_bytes() {
+            return Ok(false);
+        }
+        if starts != 2 + 4 * budget {
+            return Ok(false);
+        }
+    }
+    Ok(true)
+}
+
+/// a stays the incumbent, whatever the budget is.
+const STAYS: [(&str, &str); 6] = [("0 2 7.000000 x=a\n", "2 7.000000 x=a"); 6];
+
 #[test]
 fn better_settings_become_the_incumbent(rt: HostRuntime) -> Result<(), Fail> {
-    let (status, out, starts) = tuned::<_, Better>(&rt, rt.alloc(), SCENARIO, "2")?;
-    assert_eq!(rt; status, Status::Ok);
-    assert_eq!(rt;
-        out.bytes(),
-        b"0 2 7.000000 x=a\n1 2 6.000000 x=b\nend 2 2 6.000000 x=b\n".as_slice()
+    let found = (
+        "0 2 7.000000 x=a\n1 2 6.000000 x=b\n",
+        "2 6.000000 x=b",
     );
-    assert_eq!(rt; starts, 10);
+    let rows = [STAYS[0], found, found, found, found, found];
+    assert!(rt; is_printed::<_, Better>(&rt, rt.alloc(), &rows)?);
     Ok(())
 }
 
 #[test]
 fn worse_settings_and_ties_leave_the_incumbent(rt: HostRuntime) -> Result<(), Fail> {
-    let (status, out, starts) = tuned::<_, Worse>(&rt, rt.alloc(), SCENARIO, "1")?;
-    assert_eq!(rt; status, Status::Ok);
-    assert_eq!(rt;
-        out.bytes(),
-        b"0 2 7.000000 x=a\nend 1 2 7.000000 x=a\n".as_slice()
+    let alloc = rt.alloc();
+    assert!(rt; is_printed::<_, Worse>(&rt, alloc, &STAYS)?);
+    assert!(rt; is_printed::<_, AsGood>(&rt, alloc, &STAYS)?);
+    assert!(rt; is_printed::<_, WorseAtOnce>(&rt, alloc, &STAYS)?);
+    let free = [("0 2 0.000000 x=a\n", "2 0.000000 x=a"); 6];
+    assert!(rt; is_printed::<_, Free>(&rt, alloc, &free)?);
+    Ok(())
+}
+
+/// The children of the first comparison: a on both pairs twice, then b, all under the full
+/// cutoff.
+#[test]
+fn each_evaluation_is_run_in_full(rt: HostRuntime) -> Result<(), Fail> {
+    let alloc = rt.alloc();
+    let words = texts(alloc, &["-scenariofile", "s", "-maxComparisons", "1"])?;
+    let mut files = folder(alloc)?;
+    let (mut out, mut log) = (MemorySink::new(alloc), MemorySink::new(alloc));
+    let mut seats = [Seat::new(TableSeat::<Worse>::new(alloc, quiet(alloc)?)?)];
+    let status = tune(
+        &rt,
+        alloc,
+        words.as_slice(),
+        &mut files,
+        &mut out,
+        &mut log,
+        &mut seats,
     );
-    assert_eq!(rt; starts, 6);
-    let (status, out, starts) = tuned::<_, AsGood>(&rt, rt.alloc(), SCENARIO, "2")?;
     assert_eq!(rt; status, Status::Ok);
-    assert_eq!(rt;
-        out.bytes(),
-        b"0 2 7.000000 x=a\nend 2 2 7.000000 x=a\n".as_slice()
-    );
-    assert_eq!(rt; starts, 10);
+    let starts = seats[0].spawner().starts();
+    let runs = [("1", "a"), ("2", "a"), ("1", "a"), ("2", "a"), ("1", "b"), ("2", "b")];
+    assert_eq!(rt; starts.len(), 6);
+    for ((seed, value), start) in runs.iter().zip(starts) {
+        let wanted = ["w", "one", "0", "10.000000", "2147483647", *seed, "-x", *value];
+        assert_eq!(rt; start.as_slice().len(), 8);
+        for (word, text) in wanted.iter().zip(start.as_slice()) {
+            assert_eq!(rt; text.as_str(), *word);
+        }
+    }
     Ok(())
 }
 
