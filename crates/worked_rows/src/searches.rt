@@ -181,10 +181,7 @@ const STAYS: [(&str, &str); 6] = [("0 2 7.000000 x=a\n", "2 7.000000 x=a"); 6];
 
 #[test]
 fn better_settings_become_the_incumbent(rt: HostRuntime) -> Result<(), Fail> {
-    let found = (
-        "0 2 7.000000 x=a\n1 2 6.000000 x=b\n",
-        "2 6.000000 x=b",
-    );
+    let found = ("0 2 7.000000 x=a\n1 2 6.000000 x=b\n", "2 6.000000 x=b");
     let rows = [STAYS[0], found, found, found, found, found];
     assert!(rt; is_printed::<_, Better>(&rt, rt.alloc(), &rows)?);
     Ok(())
@@ -221,10 +218,26 @@ fn each_evaluation_is_run_in_full(rt: HostRuntime) -> Result<(), Fail> {
     );
     assert_eq!(rt; status, Status::Ok);
     let starts = seats[0].spawner().starts();
-    let runs = [("1", "a"), ("2", "a"), ("1", "a"), ("2", "a"), ("1", "b"), ("2", "b")];
+    let runs = [
+        ("1", "a"),
+        ("2", "a"),
+        ("1", "a"),
+        ("2", "a"),
+        ("1", "b"),
+        ("2", "b"),
+    ];
     assert_eq!(rt; starts.len(), 6);
     for ((seed, value), start) in runs.iter().zip(starts) {
-        let wanted = ["w", "one", "0", "10.000000", "2147483647", *seed, "-x", *value];
+        let wanted = [
+            "w",
+            "one",
+            "0",
+            "10.000000",
+            "2147483647",
+            *seed,
+            "-x",
+            *value,
+        ];
         assert_eq!(rt; start.as_slice().len(), 8);
         for (word, text) in wanted.iter().zip(start.as_slice()) {
             assert_eq!(rt; text.as_str(), *word);
