@@ -11,14 +11,14 @@ use Rattle.param_space.specs.Configurations.{IsConfig}
 use Rattle.uncapped.specs.Procedure.{Settings, Sums, Question, Incumbent, PlainState, Goes, Ends, Aborted}
 use Rattle.uncapped.specs.Setup.{Setup}
 use Rattle.uncapped.specs.Evaluation.{after_ask, after_entry, measure, evaluate, better_basic}
-use Rattle.uncapped.specs.Uncapped.{opening_basic}
+use Rattle.uncapped.specs.Uncapped.{opening_basic, last_of}
 use Rattle.ils_face.specs.Rules.{Rules, AreRules}
 use Rattle.ils_face.specs.Setups.{setup_of, setup_of-numbers, SetupOf}
 use Rattle.ils_face.specs.Shown.{sums_under}
 use Rattle.ils_face.specs.Replies.{up_to, cost_asked}
 use Rattle.ils_face.specs.declared.asks.Reply.{Reply}
 use Rattle.ils_face.specs.declared.asks.Reply.TheVariants.{Exact, Exceeds}
-use Rattle.ils_frame.specs.Comparing.{question_in, decision_in, Advanced, GoesOn, Keeps, last_of}
+use Rattle.ils_frame.specs.Comparing.{question_in, decision_in, Advanced, GoesOn, Keeps}
 use Rattle.basic_ils.specs.State.{Place, Opening, Opened, Second, First, Compared, State, phase_at, is_better, entry, entry_where, newest, measured, won_where, coming_at, coming, basic, opened, IsFit, IsFresh, IsKnown, Stands, StandsAt}
 use Rattle.basic_ils.specs.Steady.{at_question}
 use Rattle.basic_ils.specs.Evaluations.{counted_most, counted_top, counted_itself, evaluate-known, evaluate-unknown}

@@ -15,7 +15,7 @@ use std::marker::Model;
 pub struct Basic {
     /// The pairs of each evaluation.
     max_runs: u32,
-    /// The number of the present comparison, from 1.
+    /// The number of the present comparison, from 1; 0 before the first.
     compared: u32,
     incumbent: Config,
     /// The incumbent's runs, and their total cost.
@@ -117,24 +117,6 @@ impl Basic {
     }
 }
 
-/// The same ask.
-fn copy_ask(ask: &Ask) -> Result<Ask, Memory>
-    ensures { IfOk result (λ a. a ≡ ask.now) }
-{
-    match ask {
-        Ask::Full { config, n } => Ok(Ask::Full {
-            config: config.copy()?,
-            n: *n,
-        }),
-        Ask::Versus { config, n, bound } => Ok(Ask::Versus {
-            config: config.copy()?,
-            n: *n,
-            bound: *bound,
-        }),
-        Ask::End => Ok(Ask::End),
-    }
-}
-
 /// The same place.
 fn copy_place(place: &Place) -> Result<Place, Memory>
     ensures { IfOk result (λ p. p ≡ place.now) }
@@ -156,12 +138,7 @@ fn copy_entries(entries: &Vec<Entry>) -> Result<Vec<Entry>, Memory>
 {
     let mut copies = Vec::new(*entries.allocator());
     for entry in entries {
-        copies.push(Entry {
-            compared: entry.compared,
-            runs: entry.runs,
-            sum: entry.sum,
-            config: entry.config.copy()?,
-        })?;
+        copies.push(entry.copy()?)?;
     }
     Ok(copies)
 }
@@ -253,7 +230,7 @@ impl Comparer for Basic {
             incumbent: self.incumbent.copy()?,
             runs: self.runs,
             sum: self.sum,
-            asked: copy_ask(&self.asked)?,
+            asked: self.asked.copy()?,
             place: copy_place(&self.place)?,
             entries: copy_entries(&self.entries)?,
         })

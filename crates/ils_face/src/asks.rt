@@ -1,5 +1,7 @@
 //! What a search asks for, how it is answered, and its entries.
-use objective::Sum;
+ghost use Rattle.std.specs.Prelude.{◌≡◌, IfOk};
+
+use objective::{Memory, Sum};
 use param_space::Config;
 use std::marker::Model;
 
@@ -24,6 +26,26 @@ pub enum Ask {
     },
     /// Nothing: the search has ended.
     End,
+}
+
+impl Ask {
+    /// The same ask.
+    pub fn copy(&self) -> Result<Ask, Memory>
+        ensures { IfOk result (λ a. a ≡ self.now) }
+    {
+        match self {
+            Ask::Full { config, n } => Ok(Ask::Full {
+                config: config.copy()?,
+                n: *n,
+            }),
+            Ask::Versus { config, n, bound } => Ok(Ask::Versus {
+                config: config.copy()?,
+                n: *n,
+                bound: *bound,
+            }),
+            Ask::End => Ok(Ask::End),
+        }
+    }
 }
 
 /// What an ask is answered with.
@@ -54,4 +76,18 @@ impl Model for Entry {
     ghost Value = { Incumbent };
 
     ghost view = { λ e. record { compared = e.compared; runs = e.runs; sum = e.sum.0; config = e.config } };
+}
+
+impl Entry {
+    /// The same entry.
+    pub fn copy(&self) -> Result<Entry, Memory>
+        ensures { IfOk result (λ e. e ≡ self.now) }
+    {
+        Ok(Entry {
+            compared: self.compared,
+            runs: self.runs,
+            sum: self.sum,
+            config: self.config.copy()?,
+        })
+    }
 }

@@ -3,7 +3,7 @@ use Rattle.std.specs.Prelude.{ℕ, ◌≡◌, ◌+◌, ◌*◌, ◌<◌, ◌≤�
 use Rattle.uncapped.specs.Procedure.{Settings, Sums, Question, Incumbent, Addition, PlainState, Aborted, Goes, Ends, Procedure, ◌>>=◌, give}
 use Rattle.uncapped.specs.Setup.{Setup}
 use Rattle.uncapped.specs.Evaluation.{after_ask}
-use Rattle.uncapped.specs.Uncapped.{at_first, or_nothing}
+use Rattle.uncapped.specs.Uncapped.{at_first, last_of}
 use Rattle.ils_face.specs.declared.asks.Reply.{Reply}
 use Rattle.ils_face.specs.declared.asks.Reply.TheVariants.{Exact}
 use Rattle.ils_face.specs.Replies.{Fits, asking, up_to, cost_asked}
@@ -119,15 +119,6 @@ pub record Unasked (s t : PlainState) : Type 0 where
   pub asks : t.asks ≡ s.asks
   pub entries : t.entries ≡ s.entries
   pub event : t.event ≡ s.event
-
--- the incumbent of the procedure's state
-abbrev pub last_of : Sums → PlainState → Incumbent
-last_of sums s = record {
-  compared = s.compared;
-  runs = s.counts s.incumbent;
-  sum = or_nothing (sums s.incumbent (s.counts s.incumbent));
-  config = s.incumbent;
-}
 
 -- with a known cost, what is to come stays the same
 pub record GoesOn {S : Type 0} (parts : Parts S) (stands : S → PlainState → Type 0) (coming : S → Procedure Bool) (c : S) (s : PlainState) (q : Question) (r : Reply) : Type 0 where

@@ -27,8 +27,8 @@ pub draws_allowed : (rules : Rules) → AreRules rules → DrawsAllowed (IsConfi
 unfolding setup_of
 draws_allowed rules are = record {
   start = default_is_config rules.space are.space;
-  around = λ e θ a. picked-allowed (IsConfig rules.space) (neighbours_of rules.space θ) (neighbours_sound rules.space are.space θ a)
+  around = λ e θ a. picked-allowed (IsConfig rules.space) (neighbours_of rules.space θ) (neighbours_sound rules.space are.space θ a.belongs)
       (order_of rules.seed (stream_of e) (length (neighbours_of rules.space θ))) (All-order_of rules.seed (stream_of e) (length (neighbours_of rules.space θ)));
-  one = λ e θ a. one-allowed (IsConfig rules.space) rules.seed (stream_of e) (neighbours_of rules.space θ) (neighbours_sound rules.space are.space θ a);
+  one = λ e θ a. one-allowed (IsConfig rules.space) rules.seed (stream_of e) (neighbours_of rules.space θ) (neighbours_sound rules.space are.space θ a.belongs);
   random = λ e. random_is_config rules.space are.space rules.seed (stream_of e);
 }

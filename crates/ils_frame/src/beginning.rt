@@ -44,8 +44,7 @@ pub(crate) fn begin<C: Comparer>(
 {
     match upcoming {
         Upcoming::Along { first, second } => {
-            let pending = std::mem::replace(&mut course.pending, Pending::Opening);
-            course.pending = pending.advanced();
+            course.pending.advance();
             course.over = !begins(comparer, rules, first, second);
         }
         Upcoming::Begin {

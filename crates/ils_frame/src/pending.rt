@@ -173,46 +173,20 @@ impl Pending {
     }
 
     /// The next neighbour of the same list is tried. Takes no memory.
-    pub(crate) fn advanced(self) -> Pending
-        ensures { result ≡ advanced_from self }
+    pub(crate) fn advance(&mut self)
+        ensures { self.new ≡ advanced_from self.old }
     {
-        match self {
-            Pending::Improving {
-                after,
-                left,
-                current,
-                neighbour,
-                rest,
-            } => {
-                let mut later = rest;
-                match later.take_first() {
-                    Some(next) => Pending::Improving {
-                        after,
-                        left: left.saturating_sub(1),
-                        current,
-                        neighbour: next,
-                        rest: later,
-                    },
-                    None => Pending::Improving {
-                        after,
-                        left,
-                        current,
-                        neighbour,
-                        rest: later,
-                    },
-                }
+        if let Pending::Improving {
+            left,
+            neighbour,
+            rest,
+            ..
+        } = self
+        {
+            if let Some(next) = rest.take_first() {
+                *neighbour = next;
+                *left = left.saturating_sub(1);
             }
-            Pending::Opening => Pending::Opening,
-            Pending::Trying {
-                more,
-                challenger,
-                current,
-            } => Pending::Trying {
-                more,
-                challenger,
-                current,
-            },
-            Pending::Returning { more, found, ils } => Pending::Returning { more, found, ils },
         }
     }
 }

@@ -30,20 +30,20 @@ Belongs-exchange params θ p v h lt below =
     let count = get_or-map (λ (q : Param). length q.values) params p no_param 0 lt in
     Belongs-set params θ p v no_param h lt (subst (λ n. v < n) count below)
 
-exchange_is_config : (lists : Lists) → IsSpace lists → (θ : List ℕ) → IsConfig lists θ → (p v : ℕ) → p < length lists.params → v < value_count lists.params p → IsConfig lists (exchanged lists θ p v)
-exchange_is_config lists space θ config p v lt below =
-    let set = Belongs-exchange lists.params θ p v config.belongs lt below in
+exchange_is_config : (lists : Lists) → IsSpace lists → (θ : List ℕ) → Belongs lists.params θ → (p v : ℕ) → p < length lists.params → v < value_count lists.params p → IsConfig lists (exchanged lists θ p v)
+exchange_is_config lists space θ belongs p v lt below =
+    let set = Belongs-exchange lists.params θ p v belongs lt below in
     subst (IsConfig lists) (sym (all_settled lists space (slice_set θ p v) set)) (unconditional lists space (slice_set θ p v) set)
 
-exchanges_are_configs : (lists : Lists) → IsSpace lists → (θ : List ℕ) → IsConfig lists θ → (p : ℕ) → p < length lists.params → All (IsConfig lists) (exchanges lists θ p)
+exchanges_are_configs : (lists : Lists) → IsSpace lists → (θ : List ℕ) → Belongs lists.params θ → (p : ℕ) → p < length lists.params → All (IsConfig lists) (exchanges lists θ p)
 exchanges_are_configs lists space θ config p lt =
     let count : ℕ = value_count lists.params p in
     let below = All-filter (λ v. not (v == slice_index θ p)) (λ v. v < count) (range_with_len 0 count) (range_below count 0 count (omega arith)) in
     All-map (IsConfig lists) (exchanged lists θ p) (other_values lists.params θ p)
     (All-weaker (λ v. v < count) (λ v. IsConfig lists (exchanged lists θ p v)) (λ v less. exchange_is_config lists space θ config p v lt less) (other_values lists.params θ p) below)
 
--- each neighbour of an allowed canonical configuration is one too
-pub neighbours_sound : (lists : Lists) → IsSpace lists → (θ : List ℕ) → IsConfig lists θ → All (IsConfig lists) (neighbours_of lists θ)
+-- each neighbour is an allowed canonical configuration
+pub neighbours_sound : (lists : Lists) → IsSpace lists → (θ : List ℕ) → Belongs lists.params θ → All (IsConfig lists) (neighbours_of lists θ)
 unfolding neighbours_of
 neighbours_sound lists space θ config =
     let count : ℕ = length lists.params in

@@ -5,7 +5,7 @@
 ghost use Rattle.std.specs.Prelude.{◌≡◌, ◌<◌, ◌≤◌, ◌++◌, ◌∷◌, [], IfOk, OnOk, length};
 ghost use Rattle.std.specs.List.{filter};
 ghost use Rattle.param_space.specs.Space.{Belongs, IsSpace};
-ghost use Rattle.param_space.specs.Configurations.{is_allowed as allowed, IsConfig};
+ghost use Rattle.param_space.specs.Configurations.{is_allowed as allowed};
 ghost use Rattle.neighbourhood.specs.Neighbours.{value_count as count_of_values, exchanged, exchanges, neighbours_of};
 
 use objective::Memory;
@@ -76,7 +76,7 @@ fn push_exchanges(
 /// active parameter another value and putting each parameter that is inactive then at its
 /// default; by parameter and then by value number. The one error is want of memory.
 pub fn neighbours(alloc: Global, space: &Space, config: &Config) -> Result<Vec<Config>, Memory>
-    requires { IsConfig space.now config.now }
+    requires { Belongs space.now.params config.now }
     ensures value { IfOk result (λ v. v.items ≡ neighbours_of space.now config.now) }
     ensures few { IfOk result (λ v. length v.items ≤ 65536) }
 {

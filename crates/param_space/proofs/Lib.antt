@@ -1,3 +1,2 @@
 pub mod Names
-pub mod Belonging
 pub mod Texts

@@ -112,8 +112,8 @@ impl Space {
         self.conditions.as_slice().is_empty()
     }
 
-    /// Whether no forbidden clause has all its settings in the configuration. Takes no
-    /// memory.
+    /// Whether no forbidden clause has all its settings in the configuration; a setting
+    /// counts only where its parameter is active. Takes no memory.
     pub fn is_allowed(&self, config: &Config) -> bool
         requires { Belongs self.now.params config.now }
         ensures { result ≡ allowed self.now config.now }

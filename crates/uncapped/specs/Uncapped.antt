@@ -50,18 +50,17 @@ abbrev pub or_nothing : Option ℕ → ℕ
 or_nothing (Some x) = x
 or_nothing None = 0
 
-abbrev pub run_of : Sums → PlainState → End → Run
-run_of sums s e = record {
-  end = e;
-  asks = s.asks;
-  entries = s.entries;
-  last = record {
-    compared = s.compared;
-    runs = s.counts s.incumbent;
-    sum = or_nothing (sums s.incumbent (s.counts s.incumbent));
-    config = s.incumbent;
-  };
+-- the incumbent of a state, with the total cost of its runs
+abbrev pub last_of : Sums → PlainState → Incumbent
+last_of sums s = record {
+  compared = s.compared;
+  runs = s.counts s.incumbent;
+  sum = or_nothing (sums s.incumbent (s.counts s.incumbent));
+  config = s.incumbent;
 }
+
+abbrev pub run_of : Sums → PlainState → End → Run
+run_of sums s e = record { end = e; asks = s.asks; entries = s.entries; last = last_of sums s }
 
 abbrev pub run_after : {A : Type 0} → Sums → Step A → Run
 run_after sums (Goes s _) = run_of sums s Finished

@@ -1,4 +1,4 @@
-//! Each call of a search once, at BasicILS.
+//! A search by BasicILS is opened and copied.
 use basic_ils::Basic;
 use ils_face::{Rules, Search};
 use ils_frame::Ils;

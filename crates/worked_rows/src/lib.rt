@@ -5,6 +5,8 @@
 #[cfg(test)]
 mod calls;
 #[cfg(test)]
+mod drawn;
+#[cfg(test)]
 mod searches;
 #[cfg(test)]
 mod tests;

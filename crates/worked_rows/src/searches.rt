@@ -1,7 +1,7 @@
 //! Searches of the values a and b on two pairs. The values are those of the worked rows of
 //! BasicILS among the definitions of the procedure.
 ghost use Rattle.std.specs.Prelude.{◌≡◌, ◌≤◌};
-ghost use Rattle.worked_rows.specs.Rows.{has_b as is_b, by_pair as of_pair, solved as solved_after, against as outcome_against};
+ghost use Rattle.worked_rows.specs.Rows.{has as has_value, by_pair as of_pair, solved as solved_after, against as outcome_against};
 
 use crate::tests::{SCENARIO, folder, quiet, texts};
 use objective::{Memory, Micros, Outcome};
@@ -11,13 +11,13 @@ use std::sync::Wait;
 use std::test::Fail;
 use tuner::{Seat, Status, tune};
 
-/// Whether the first setting has the value b.
-fn has_b(settings: &[Setting]) -> bool
-    ensures { result ≡ is_b settings.now }
+/// Whether the first setting has this value.
+pub(crate) fn has(settings: &[Setting], value: &str) -> bool
+    ensures { result ≡ has_value value.now settings.now }
 {
     match settings {
         [] => false,
-        [first, ..] => first.value.as_str() == "b",
+        [first, ..] => first.value.as_str() == value,
     }
 }
 
@@ -40,7 +40,7 @@ fn solved(seconds: u64) -> Outcome
 fn against(key: &Key, first: Outcome, second: Outcome) -> Outcome
     ensures { result ≡ outcome_against first second key.now }
 {
-    if has_b(key.settings.as_slice()) {
+    if has(key.settings.as_slice(), "b") {
         by_pair(key.seed, first, second)
     } else {
         by_pair(key.seed, solved(3), solved(4))
