@@ -1,3 +1,4 @@
 pub mod Words
 pub mod Decimals
 pub mod Parts
+pub mod Times

@@ -6,6 +6,7 @@ mod decimals;
 mod items;
 mod parts;
 mod text;
+mod times;
 mod words;
 
 pub use cuts::{after_prefix, before_suffix, parted};
@@ -13,4 +14,5 @@ pub use decimals::{push_seconds, read_count, seconds_text};
 pub use items::Items;
 pub use parts::{ended_lines, pieces};
 pub use text::Text;
+pub use times::{TimeFault, read_micros};
 pub use words::{is_blank, is_word, is_word_byte};
