@@ -2,3 +2,4 @@ pub mod Words
 pub mod Decimals
 pub mod Parts
 pub mod Times
+pub mod Tokens

@@ -5,8 +5,11 @@ mod cuts;
 mod decimals;
 mod items;
 mod parts;
+#[cfg(test)]
+mod tests;
 mod text;
 mod times;
+mod tokenizer;
 mod words;
 
 pub use cuts::{after_prefix, before_suffix, parted};
@@ -15,4 +18,5 @@ pub use items::Items;
 pub use parts::{ended_lines, pieces};
 pub use text::Text;
 pub use times::{TimeFault, read_micros};
+pub use tokenizer::{Token, tokens};
 pub use words::{is_blank, is_word, is_word_byte};
