@@ -33,7 +33,7 @@ less_or_not a zero = inr (omega arith)
 less_or_not zero (suc b) = inl (omega arith)
 less_or_not (suc a) (suc b) = elim (less_or_not a b) [ inl l ↦ inl (omega (arith, l)) | inr l ↦ inr (omega (arith, l)) ]
 
-drop_all : (n : ℕ) (xs : List ℕ) → length xs ≤ n → drop n xs ≡ []
+pub drop_all : (n : ℕ) (xs : List ℕ) → length xs ≤ n → drop n xs ≡ []
 drop_all zero [] h = refl
 drop_all zero (x ∷ xs) h = absurd (omega (arith, h))
 drop_all (suc n) [] h = refl

@@ -3,3 +3,4 @@ pub mod Decimals
 pub mod Parts
 pub mod Times
 pub mod Tokens
+pub mod Lines

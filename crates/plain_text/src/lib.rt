@@ -1,6 +1,7 @@
 //! Texts and lists as contracts see them, words, and numbers as text.
 #![tactic(auto)]
 
+mod breaks;
 mod cuts;
 mod decimals;
 mod items;
@@ -12,6 +13,7 @@ mod times;
 mod tokenizer;
 mod words;
 
+pub use breaks::{Line, TextLines, lines};
 pub use cuts::{after_prefix, before_suffix, parted};
 pub use decimals::{push_seconds, read_count, seconds_text};
 pub use items::Items;

@@ -1,5 +1,5 @@
 //! Worked times and lines.
-use crate::{TimeFault, Token, read_micros, tokens};
+use crate::{TimeFault, lines, read_micros, tokens};
 use objective::{Memory, Micros};
 
 #[test]
@@ -57,5 +57,31 @@ fn splits_a_worked_line(rt: HostRuntime) -> Result<(), Memory> {
         assert_eq!(rt; (token.start, token.end), place);
     }
     assert!(rt; tokens(rt.alloc(), b"")?.is_empty());
+    Ok(())
+}
+
+#[test]
+fn finds_worked_lines(rt: HostRuntime) -> Result<(), Memory> {
+    for (text, wanted) in [
+        ("", [None, None, None]),
+        ("x\n", [Some((1, 0, 1)), None, None]),
+        ("x\n\n", [Some((1, 0, 1)), Some((2, 2, 2)), None]),
+        (
+            "a\r\n\nb\r",
+            [Some((1, 0, 1)), Some((2, 3, 3)), Some((3, 4, 6))],
+        ),
+        ("\r\r\n", [Some((1, 0, 1)), None, None]),
+    ] {
+        let mut found = lines(text.as_bytes());
+        for place in wanted {
+            let line = found.next();
+            assert_eq!(rt;
+                line.map(|l| (l.number, l.start, l.end)),
+                place,
+                "in {text}"
+            );
+        }
+        assert!(rt; found.next().is_none());
+    }
     Ok(())
 }
