@@ -1,3 +1,6 @@
 pub mod Words
 pub mod Decimals
 pub mod Parts
+pub mod Times
+pub mod Tokens
+pub mod Lines

@@ -1,16 +1,24 @@
 //! Texts and lists as contracts see them, words, and numbers as text.
 #![tactic(auto)]
 
+mod breaks;
 mod cuts;
 mod decimals;
 mod items;
 mod parts;
+#[cfg(test)]
+mod tests;
 mod text;
+mod times;
+mod tokenizer;
 mod words;
 
+pub use breaks::{Line, TextLines, lines};
 pub use cuts::{after_prefix, before_suffix, parted};
 pub use decimals::{push_seconds, read_count, seconds_text};
 pub use items::Items;
 pub use parts::{ended_lines, pieces};
 pub use text::Text;
+pub use times::{TimeFault, read_micros};
+pub use tokenizer::{Token, tokens};
 pub use words::{is_blank, is_word, is_word_byte};

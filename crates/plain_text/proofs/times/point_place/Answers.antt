@@ -1,0 +1,6 @@
+use Rattle.plain_text.specs.Times.{is_point}
+use Rattle.plain_text.proofs.Places.{no_place}
+use Rattle.plain_text.proofs.times.point_place.Goals as goal
+
+pub returns-in-None : goal.returns-in-None
+returns-in-None c = no_place is_point c.args.text.now c.in-None.ensures
