@@ -3,11 +3,11 @@ ghost use Rattle.std.specs.Prelude.{◌≡◌};
 ghost use Rattle.worked_rows.specs.Rows.{by_heuristic as outcome_by_heuristic};
 
 use crate::searches::has;
-use crate::tests::{quiet, texts};
+use crate::tests::{quiet, tuned};
 use objective::{Micros, Outcome};
-use outside::{Key, MemoryFiles, MemorySink, Table, TableSeat};
+use outside::{Key, MemoryFiles, Table, TableSeat};
 use std::test::Fail;
-use tuner::{Seat, Status, tune};
+use tuner::{Seat, Status};
 
 /// The outcome of the example's wrapper.
 fn by_heuristic(key: &Key) -> Outcome
@@ -43,7 +43,7 @@ const SCENARIO: &str =
 #[test]
 fn ten_comparisons_find_the_random_heuristic(rt: HostRuntime) -> Result<(), Fail> {
     let alloc = rt.alloc();
-    let words = texts(alloc, &["-scenariofile", "s", "-maxComparisons", "10"])?;
+    let words = ["-scenariofile", "s", "-maxComparisons", "10"];
     let mut files = MemoryFiles::new(alloc);
     files.put("s", SCENARIO.as_bytes())?;
     files.put(
@@ -51,17 +51,8 @@ fn ten_comparisons_find_the_random_heuristic(rt: HostRuntime) -> Result<(), Fail
         b"heuristic {first, random} [first]\nrestarts {0, 10, 100} [10]\n",
     )?;
     files.put("i", b"easy\nhard\n")?;
-    let (mut out, mut log) = (MemorySink::new(alloc), MemorySink::new(alloc));
     let mut seats = [Seat::new(TableSeat::<Example>::new(alloc, quiet(alloc)?)?)];
-    let status = tune(
-        &rt,
-        alloc,
-        words.as_slice(),
-        &mut files,
-        &mut out,
-        &mut log,
-        &mut seats,
-    );
+    let (status, out) = tuned(&rt, alloc, &words, &mut files, &mut seats)?;
     assert_eq!(rt; status, Status::Ok);
     assert_eq!(rt;
         out.bytes(),

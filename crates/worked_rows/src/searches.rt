@@ -3,13 +3,13 @@
 ghost use Rattle.std.specs.Prelude.{◌≡◌, ◌≤◌};
 ghost use Rattle.worked_rows.specs.Rows.{has as has_value, by_pair as of_pair, solved as solved_after, against as outcome_against};
 
-use crate::tests::{SCENARIO, folder, quiet, texts};
+use crate::tests::{SCENARIO, folder, quiet, tuned};
 use objective::{Memory, Micros, Outcome};
 use outside::{Key, MemorySink, Setting, Table, TableSeat};
 use std::alloc::Global;
 use std::sync::Wait;
 use std::test::Fail;
-use tuner::{Seat, Status, tune};
+use tuner::{Seat, Status};
 
 /// Whether the first setting has this value.
 pub(crate) fn has(settings: &[Setting], value: &str) -> bool
@@ -128,26 +128,17 @@ impl Table for AbortsFirst {
 
 /// How a tuning of this scenario with this budget ends, what it prints, and how many
 /// children it starts.
-fn tuned<R: Wait, T: Table + Send>(
+fn searched<R: Wait, T: Table + Send>(
     rt: &R,
     alloc: Global,
     scenario: &str,
     budget: &str,
 ) -> Result<(Status, MemorySink, usize), Memory> {
-    let words = texts(alloc, &["-scenariofile", "s", "-maxComparisons", budget])?;
+    let words = ["-scenariofile", "s", "-maxComparisons", budget];
     let mut files = folder(alloc)?;
     files.put("s", scenario.as_bytes())?;
-    let (mut out, mut log) = (MemorySink::new(alloc), MemorySink::new(alloc));
     let mut seats = [Seat::new(TableSeat::<T>::new(alloc, quiet(alloc)?)?)];
-    let status = tune(
-        rt,
-        alloc,
-        words.as_slice(),
-        &mut files,
-        &mut out,
-        &mut log,
-        &mut seats,
-    );
+    let (status, out) = tuned(rt, alloc, &words, &mut files, &mut seats)?;
     Ok((status, out, seats[0].spawner().starts().len()))
 }
 
@@ -164,7 +155,7 @@ fn is_printed<R: Wait, T: Table + Send>(
 ) -> Result<bool, Memory> {
     for (budget, (entries, last)) in rows.iter().enumerate() {
         let words = format!(in alloc; "{budget}")?;
-        let (status, out, starts) = tuned::<_, T>(rt, alloc, SCENARIO, words.as_str())?;
+        let (status, out, starts) = searched::<_, T>(rt, alloc, SCENARIO, words.as_str())?;
         let printed = format!(in alloc; "{entries}end {budget} {last}\n")?;
         if status != Status::Ok || out.bytes() != printed.as_bytes() {
             return Ok(false);
@@ -203,19 +194,10 @@ fn worse_settings_and_ties_leave_the_incumbent(rt: HostRuntime) -> Result<(), Fa
 #[test]
 fn each_evaluation_is_run_in_full(rt: HostRuntime) -> Result<(), Fail> {
     let alloc = rt.alloc();
-    let words = texts(alloc, &["-scenariofile", "s", "-maxComparisons", "1"])?;
+    let words = ["-scenariofile", "s", "-maxComparisons", "1"];
     let mut files = folder(alloc)?;
-    let (mut out, mut log) = (MemorySink::new(alloc), MemorySink::new(alloc));
     let mut seats = [Seat::new(TableSeat::<Worse>::new(alloc, quiet(alloc)?)?)];
-    let status = tune(
-        &rt,
-        alloc,
-        words.as_slice(),
-        &mut files,
-        &mut out,
-        &mut log,
-        &mut seats,
-    );
+    let (status, _) = tuned(&rt, alloc, &words, &mut files, &mut seats)?;
     assert_eq!(rt; status, Status::Ok);
     let starts = seats[0].spawner().starts();
     let runs = [
@@ -248,7 +230,7 @@ fn each_evaluation_is_run_in_full(rt: HostRuntime) -> Result<(), Fail> {
 
 #[test]
 fn an_abort_in_a_comparison_ends_the_search(rt: HostRuntime) -> Result<(), Fail> {
-    let (status, out, starts) = tuned::<_, AbortsFirst>(&rt, rt.alloc(), SCENARIO, "1")?;
+    let (status, out, starts) = searched::<_, AbortsFirst>(&rt, rt.alloc(), SCENARIO, "1")?;
     assert_eq!(rt; status, Status::Unbuilt);
     assert_eq!(rt; out.bytes(), b"unbuilt\n".as_slice());
     assert_eq!(rt; starts, 5);
@@ -273,7 +255,7 @@ fn numbers_of_the_search_have_their_forms(rt: HostRuntime) -> Result<(), Fail> {
         ("r = 0\ns = 1\np_restart = 0\n", "", 10),
     ] {
         let scenario = format!(in alloc; "{HEAD}{numbers}pair_order = file\n")?;
-        let (status, _, _) = tuned::<_, Better>(&rt, alloc, scenario.as_str(), budget)?;
+        let (status, _, _) = searched::<_, Better>(&rt, alloc, scenario.as_str(), budget)?;
         assert_eq!(rt; status.code(), code, "{numbers}: {budget}");
     }
     Ok(())

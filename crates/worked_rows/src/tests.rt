@@ -1,8 +1,11 @@
 //! The default settings on two pairs.
+ghost use Rattle.std.specs.Prelude.{All, IsTrue};
+
 use objective::{Memory, Micros, Outcome};
 use outside::{Key, MemoryFiles, MemorySink, Script, Table, TableSeat};
 use plain_text::{Items, Text};
 use std::alloc::Global;
+use std::sync::Wait;
 use std::test::Fail;
 use tuner::{Seat, Status, tune};
 
@@ -89,6 +92,30 @@ pub(crate) fn quiet(alloc: Global) -> Result<Script, Memory> {
     })
 }
 
+/// How a tuning by these words over these files and seats ends, and what it prints.
+pub(crate) fn tuned<R: Wait, T: Table + Send>(
+    rt: &R,
+    alloc: Global,
+    words: &[&str],
+    files: &mut MemoryFiles,
+    seats: &mut [Seat<TableSeat<T>>],
+) -> Result<(Status, MemorySink), Memory>
+    requires { All (λ seat. IsTrue seat.spawner.idle) seats.old }
+{
+    let words = texts(alloc, words)?;
+    let (mut out, mut log) = (MemorySink::new(alloc), MemorySink::new(alloc));
+    let status = tune(
+        rt,
+        alloc,
+        words.as_slice(),
+        files,
+        &mut out,
+        &mut log,
+        seats,
+    );
+    Ok((status, out))
+}
+
 #[test]
 fn default_settings_print_one_entry(rt: HostRuntime) -> Result<(), Fail> {
     let alloc = rt.alloc();
@@ -129,7 +156,6 @@ fn default_settings_print_one_entry(rt: HostRuntime) -> Result<(), Fail> {
 #[test]
 fn failed_children_are_named(rt: HostRuntime) -> Result<(), Fail> {
     let alloc = rt.alloc();
-    let words = texts(alloc, &WORDS)?;
     // The first start fails; the second look does, where no child is pending.
     for (bad_start, bad_poll, wanted) in [
         (1, 0, "childfault 1 x=a\n"),
@@ -142,17 +168,8 @@ fn failed_children_are_named(rt: HostRuntime) -> Result<(), Fail> {
             stuck: numbers(alloc, &[])?,
         };
         let mut files = folder(alloc)?;
-        let (mut out, mut log) = (MemorySink::new(alloc), MemorySink::new(alloc));
         let mut seats = [Seat::new(TableSeat::<ThreeAndFour>::new(alloc, script)?)];
-        let status = tune(
-            &rt,
-            alloc,
-            words.as_slice(),
-            &mut files,
-            &mut out,
-            &mut log,
-            &mut seats,
-        );
+        let (status, out) = tuned(&rt, alloc, &WORDS, &mut files, &mut seats)?;
         assert_eq!(rt; status, Status::ChildFault { seat: 0 });
         assert_eq!(rt; status.code(), 7);
         assert_eq!(rt; out.bytes(), wanted.as_bytes());
@@ -191,7 +208,6 @@ fn writes_that_fail_end_the_call(rt: HostRuntime) -> Result<(), Fail> {
 #[test]
 fn files_that_fail_and_files_of_another_form(rt: HostRuntime) -> Result<(), Fail> {
     let alloc = rt.alloc();
-    let words = texts(alloc, &WORDS)?;
     // A file with other contents, the read that fails, and the line and the status that follow.
     for (name, contents, failing, wanted, code) in [
         ("other", "", 1, "readfault s\n", 4),
@@ -206,17 +222,8 @@ fn files_that_fail_and_files_of_another_form(rt: HostRuntime) -> Result<(), Fail
         let mut files = folder(alloc)?;
         files.put(name, contents.as_bytes())?;
         files.fail_at(failing)?;
-        let (mut out, mut log) = (MemorySink::new(alloc), MemorySink::new(alloc));
         let mut seats = [Seat::new(TableSeat::<ThreeAndFour>::new(alloc, quiet(alloc)?)?)];
-        let status = tune(
-            &rt,
-            alloc,
-            words.as_slice(),
-            &mut files,
-            &mut out,
-            &mut log,
-            &mut seats,
-        );
+        let (status, out) = tuned(&rt, alloc, &WORDS, &mut files, &mut seats)?;
         assert_eq!(rt; status.code(), code, "{name}: {contents}");
         assert_eq!(rt; out.bytes(), wanted.as_bytes(), "{name}: {contents}");
     }
@@ -284,7 +291,7 @@ fn may_stand(status: Status, bytes: &[u8]) -> bool {
     }
 }
 
-// Run it by `rt try --test --fail-alloc 1..`, which refuses each allocation in turn.
+// Run it by `rt try --test --fail-alloc N`, which refuses the allocation with this number.
 #[test]
 fn refused_memory_gives_no_other_answer(rt: HostRuntime) {
     let alloc = rt.alloc();
