@@ -1,13 +1,25 @@
 -- A configuration as names and values, and as the text that is printed.
-use Rattle.std.specs.Prelude.{ℕ, List, [], ◌∷◌, ◌++◌, codes}
+use Rattle.std.specs.Prelude.{ℕ, ◌+◌, Bool, List, [], ◌∷◌, ◌++◌, codes, if◌then◌else◌}
 use Rattle.std.specs.List.{slice_index_or}
 use Rattle.param_space.specs.declared.lists.Param.{Param}
+use Rattle.param_space.specs.Space.{Lists}
+use Rattle.param_space.specs.Configurations.{is_active}
 
 -- each parameter's name and its value, in the order of the space
 abbrev pub named_values : List Param → List ℕ → List (List ℕ × List ℕ)
 named_values [] values = []
 named_values (p ∷ ps) [] = []
 named_values (p ∷ ps) (v ∷ vs) = (p.name, slice_index_or p.values v []) ∷ named_values ps vs
+
+-- the elements whose places pass, of a list that stands from a place on
+abbrev pub at_places : {X : Type 0} → (ℕ → Bool) → ℕ → List X → List X
+at_places passes place [] = []
+at_places passes place (x ∷ later) =
+    if passes place then x ∷ at_places passes (place + 1) later else at_places passes (place + 1) later
+
+-- each active parameter's name and its value, in the order of the space
+abbrev pub active_values : Lists → List ℕ → List (List ℕ × List ℕ)
+active_values lists config = at_places (is_active lists config) 0 (named_values lists.params config)
 
 -- `name=value`
 abbrev pub setting_text : List ℕ × List ℕ → List ℕ

@@ -1,5 +1,5 @@
 -- A parameter space as plain lists, and the first rule that such lists break.
-use Rattle.std.specs.Prelude.{ℕ, ◌+◌, ◌≡◌, ◌<◌, Bool, true, false, not, ◌&&◌, List, [], ◌∷◌, ◌++◌, Option, Some, None, nat_lt, nat_le, length, map, bytes_eq}
+use Rattle.std.specs.Prelude.{ℕ, ◌+◌, ◌≡◌, ◌<◌, Bool, true, false, not, ◌&&◌, List, [], ◌∷◌, ◌++◌, Option, Some, None, nat_lt, nat_le, length, map, slice_index, bytes_eq}
 use Rattle.std.specs.List.{list_any, list_all}
 use Rattle.plain_text.specs.Words.{is_word}
 use Rattle.param_space.specs.declared.lists.Param.{Param}
@@ -68,6 +68,10 @@ pub record IsSpace (lists : Lists) : Type 0 where
   pub sound : space_fault lists.params ≡ None
   pub unconditional : lists.conditions ≡ []
   pub unrestricted : lists.forbidden ≡ []
+
+-- how many values the parameter with this number has
+abbrev pub value_count : List Param → ℕ → ℕ
+value_count params p = slice_index (map (λ q. length q.values) params) p
 
 -- the configuration of the defaults
 abbrev pub defaults : List Param → List ℕ

@@ -1,5 +1,5 @@
 -- The lines of a text, with their numbers and places.
-use Rattle.std.specs.Prelude.{ℕ, Bool, ◌≡◌, ◌+◌, ◌-◌, ◌&&◌, ◌==◌, nat_lt, List, [], ◌∷◌, length, drop, get_or, if◌then◌else◌}
+use Rattle.std.specs.Prelude.{ℕ, Bool, ◌≡◌, ◌+◌, ◌-◌, ◌&&◌, ◌==◌, nat_lt, List, [], ◌∷◌, length, map, take, drop, get_or, if◌then◌else◌}
 use Rattle.std.specs.List.{slice_split}
 use Rattle.plain_text.specs.declared.breaks.Line.{Line}
 
@@ -27,6 +27,14 @@ lines_of given start (part ∷ parts) = if length parts == 0 then open_line give
 -- the lines of a text
 abbrev pub lines : List ℕ → List Line
 lines text = lines_of 0 0 (slice_split is_break text)
+
+-- a line's number and its bytes
+abbrev pub numbered : List ℕ → Line → ℕ × List ℕ
+numbered text line = (line.number, take (line.end - line.start) (drop line.start text))
+
+-- the lines of a text, each with its number
+unfoldable pub numbered_lines : List ℕ → List (ℕ × List ℕ)
+numbered_lines text = map (numbered text) (lines text)
 
 -- the first line of a text has this size, and the others stand after so many bytes
 abbrev pub IsFirstLine : List ℕ → ℕ → ℕ → Type 0

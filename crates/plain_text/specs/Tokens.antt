@@ -1,5 +1,5 @@
 -- The tokens of a line: marks, and runs of other bytes without blanks.
-use Rattle.std.specs.Prelude.{ℕ, zero, suc, Bool, ◌+◌, ◌-◌, ◌&&◌, ◌||◌, ◌==◌, not, List, [], ◌∷◌, ◌++◌, length, drop, get_or, if◌then◌else◌}
+use Rattle.std.specs.Prelude.{ℕ, zero, suc, Bool, ◌+◌, ◌-◌, ◌&&◌, ◌||◌, ◌==◌, not, List, [], ◌∷◌, ◌++◌, length, map, take, drop, get_or, if◌then◌else◌}
 use Rattle.std.specs.List.{list_any, position_or_len, before_first}
 use Rattle.plain_text.specs.Words.{is_blank}
 use Rattle.plain_text.specs.declared.tokenizer.Token.{Token}
@@ -36,3 +36,11 @@ tokens_before text (suc place) = tokens_before text place ++ (if begins text pla
 -- the tokens of a line
 unfoldable pub tokens : List ℕ → List Token
 tokens line = tokens_before (content line) (length (content line))
+
+-- the bytes of a token of a line
+abbrev pub token_text : List ℕ → Token → List ℕ
+token_text line token = take (token.end - token.start) (drop token.start line)
+
+-- the texts of the tokens of a line
+unfoldable pub token_texts : List ℕ → List (List ℕ)
+token_texts line = map (token_text line) (tokens line)

@@ -1,0 +1,139 @@
+-- The rules of a parameter space, and the first one that lists break.
+use Rattle.std.specs.Prelude.{ℕ, ◌+◌, ◌≡◌, ◌==◌, Bool, true, false, not, ◌&&◌, List, [], ◌∷◌, ◌++◌, Option, Some, None, nat_lt, nat_le, length, map, bytes_eq}
+use Rattle.std.specs.List.{list_any, list_all}
+use Rattle.plain_text.specs.Words.{is_word}
+use Rattle.param_space.specs.declared.lists.Param.{Param}
+use Rattle.param_space.specs.declared.lists.Condition.{Condition}
+use Rattle.param_space.specs.declared.lists.Forbidden.{Forbidden}
+use Rattle.param_space.specs.declared.lists.Part.{Part}
+use Rattle.param_space.specs.declared.lists.Part.TheVariants as part
+use Rattle.param_space.specs.declared.lists.SpaceWhat.{SpaceWhat}
+use Rattle.param_space.specs.declared.lists.SpaceWhat.TheVariants.{NoParameters, TooMany, BadWord, DoubleName, NoValues, DoubleValue, BadDefault, UnknownName, UnknownValue, Cycle, DefaultForbidden}
+use Rattle.param_space.specs.declared.lists.SpaceFault.{SpaceFault}
+use Rattle.param_space.specs.declared.lists.SpaceFault.TheVariants.{At, Memory}
+use Rattle.param_space.specs.Space.{Lists, value_count, defaults}
+use Rattle.param_space.specs.Ancestors.{is_ancestor}
+use Rattle.param_space.specs.Configurations.{is_forbidden_by}
+
+-- ---- lists of rules
+
+-- what the first rule that doesn't hold is called
+abbrev pub first_broken : List (Bool × SpaceWhat) → Option SpaceWhat
+first_broken [] = None
+first_broken ((true, _) ∷ rules) = first_broken rules
+first_broken ((false, what) ∷ _) = Some what
+
+-- this fault of the element at a place, or else what follows
+abbrev pub or_later : Part → ℕ → Option SpaceWhat → Option SpaceFault → Option SpaceFault
+or_later part place (Some what) later = Some (At part place what)
+or_later part place None later = later
+
+-- the first fault of the elements of a list, which stand from a place on
+abbrev pub first_in : {X : Type 0} → Part → (ℕ → X → Option SpaceWhat) → ℕ → List X → Option SpaceFault
+first_in part fault place [] = None
+first_in part fault place (x ∷ later) = or_later part place (fault place x) (first_in part fault (place + 1) later)
+
+-- the first of two faults
+abbrev pub or_else : Option SpaceFault → Option SpaceFault → Option SpaceFault
+or_else (Some fault) later = Some fault
+or_else None later = later
+
+-- no two elements are equal
+abbrev pub differ : {X : Type 0} → (X → X → Bool) → List X → Bool
+differ equal [] = true
+differ equal (x ∷ xs) = not (list_any (equal x) xs) && differ equal xs
+
+-- no two of the texts are equal
+abbrev pub texts_differ : List (List ℕ) → Bool
+texts_differ texts = differ bytes_eq texts
+
+-- no two of the numbers are equal
+abbrev pub numbers_differ : List ℕ → Bool
+numbers_differ numbers = differ (◌==◌) numbers
+
+-- ---- parameters
+
+-- the rules of the parameter at a place, after parameters with these names
+abbrev pub param_fault : List (List ℕ) → ℕ → Param → Option SpaceWhat
+param_fault earlier place p = first_broken (
+    (nat_lt place 256 && nat_le (length p.values) 256, TooMany)
+    ∷ (is_word p.name && list_all is_word p.values, BadWord)
+    ∷ (not (list_any (bytes_eq p.name) earlier), DoubleName)
+    ∷ (nat_lt 0 (length p.values), NoValues)
+    ∷ (texts_differ p.values, DoubleValue)
+    ∷ (nat_lt p.default (length p.values), BadDefault)
+    ∷ [])
+
+-- the first fault of the parameters from a place on, after parameters with these names
+abbrev pub later_params_fault : List (List ℕ) → ℕ → List Param → Option SpaceFault
+later_params_fault earlier place [] = None
+later_params_fault earlier place (p ∷ later) =
+    or_later part.Param place (param_fault earlier place p) (later_params_fault (earlier ++ p.name ∷ []) (place + 1) later)
+
+-- the first fault of the parameters
+abbrev pub params_fault : List Param → Option SpaceFault
+params_fault [] = Some (At part.Whole 0 NoParameters)
+params_fault (p ∷ later) = later_params_fault [] 0 (p ∷ later)
+
+-- ---- conditions
+
+-- the rules of the condition at a place
+abbrev pub condition_fault : List Param → ℕ → Condition → Option SpaceWhat
+condition_fault params place c = first_broken (
+    (nat_lt place 1024, TooMany)
+    ∷ (nat_lt 0 (length c.values), NoValues)
+    ∷ (numbers_differ c.values, DoubleValue)
+    ∷ (nat_lt c.child (length params) && nat_lt c.parent (length params), UnknownName)
+    ∷ (list_all (λ v. nat_lt v (value_count params c.parent)) c.values, UnknownValue)
+    ∷ [])
+
+-- the first fault of the conditions
+abbrev pub conditions_fault : List Param → List Condition → Option SpaceFault
+conditions_fault params conditions = first_in part.Condition (condition_fault params) 0 conditions
+
+-- ---- forbidden clauses
+
+-- the rules of the forbidden clause at a place
+abbrev pub clause_fault : List Param → ℕ → Forbidden → Option SpaceWhat
+clause_fault params place f = first_broken (
+    (nat_lt place 4096 && nat_le (length f.picks) 16, TooMany)
+    ∷ (nat_lt 0 (length f.picks), NoValues)
+    ∷ (numbers_differ (map (λ k. k.param) f.picks), DoubleName)
+    ∷ (list_all (λ k. nat_lt k.param (length params)) f.picks, UnknownName)
+    ∷ (list_all (λ k. nat_lt k.value (value_count params k.param)) f.picks, UnknownValue)
+    ∷ [])
+
+-- the first fault of the forbidden clauses
+abbrev pub clauses_fault : List Param → List Forbidden → Option SpaceFault
+clauses_fault params forbidden = first_in part.Forbidden (clause_fault params) 0 forbidden
+
+-- ---- the space as a whole
+
+-- the first condition whose child is its own ancestor
+abbrev pub cycle_fault : Lists → Option SpaceFault
+cycle_fault lists =
+    first_in part.Condition (λ _ c. first_broken ((not (is_ancestor lists c.child c.child), Cycle) ∷ [])) 0 lists.conditions
+
+-- the first clause that forbids the configuration of the defaults
+abbrev pub default_fault : Lists → Option SpaceFault
+default_fault lists =
+    first_in part.Forbidden (λ _ f. first_broken ((not (is_forbidden_by lists (defaults lists.params) f), DefaultForbidden) ∷ [])) 0 lists.forbidden
+
+-- the first fault of three lists
+abbrev pub space_fault : Lists → Option SpaceFault
+space_fault lists =
+    or_else (params_fault lists.params) (or_else (conditions_fault lists.params lists.conditions)
+        (or_else (clauses_fault lists.params lists.forbidden) (or_else (cycle_fault lists) (default_fault lists))))
+
+-- lists that make a space: they break no rule
+pub record IsSpace (lists : Lists) : Type 0 where
+  pub params : params_fault lists.params ≡ None
+  pub conditions : conditions_fault lists.params lists.conditions ≡ None
+  pub clauses : clauses_fault lists.params lists.forbidden ≡ None
+  pub acyclic : cycle_fault lists ≡ None
+  pub default : default_fault lists ≡ None
+
+-- the fault that is returned is the first one that is found; memory may always run out
+abbrev pub IsCause : SpaceFault → Option SpaceFault → Type 0
+IsCause Memory found = Unit {0}
+IsCause (At part place what) found = found ≡ Some (At part place what)
