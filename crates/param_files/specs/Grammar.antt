@@ -1,0 +1,95 @@
+-- The forms of a parameter file's lines, over the texts of their tokens.
+use Rattle.std.specs.Prelude.{ℕ, Bool, true, false, not, ◌&&◌, ◌||◌, List, [], ◌∷◌, Option, Some, None, option_map, bytes_eq, codes, if◌then◌else◌}
+use Rattle.std.specs.Str.{str_eq_ignore_ascii_case}
+use Rattle.plain_text.specs.Words.{is_word}
+use Rattle.param_files.specs.declared.statements.NamedPick.{NamedPick}
+use Rattle.param_files.specs.declared.statements.Statement.{Statement}
+use Rattle.param_files.specs.declared.statements.Statement.TheVariants.{Nothing, Parameter, Condition, Clause}
+
+-- no tokens, or a heading
+abbrev pub is_nothing : List (List ℕ) → Bool
+is_nothing [] = true
+is_nothing (t ∷ []) = str_eq_ignore_ascii_case t (codes "Conditionals:") || str_eq_ignore_ascii_case t (codes "Forbidden:")
+is_nothing (t ∷ u ∷ later) = false
+
+-- one or more values parted by commas, a closing brace, and what follows it
+unfoldable pub listed : List (List ℕ) → Option (List (List ℕ) × List (List ℕ))
+listed [] = None
+listed (value ∷ []) = None
+listed (value ∷ mark ∷ rest) =
+    if not (is_word value) then None
+    else if bytes_eq mark (codes "}") then Some (value ∷ [], rest)
+    else if bytes_eq mark (codes ",") then option_map (λ more. (value ∷ more.0, more.1)) (listed rest)
+    else None
+
+-- one or more picks parted by commas, a closing brace, and what follows it
+unfoldable pub picked : List (List ℕ) → Option (List NamedPick × List (List ℕ))
+picked [] = None
+picked (name ∷ []) = None
+picked (name ∷ equals ∷ []) = None
+picked (name ∷ equals ∷ value ∷ []) = None
+picked (name ∷ equals ∷ value ∷ mark ∷ rest) =
+    if not (is_word name && (bytes_eq equals (codes "=") && is_word value)) then None
+    else if bytes_eq mark (codes "}") then Some (record { name = name; value = value } ∷ [], rest)
+    else if bytes_eq mark (codes ",") then option_map (λ more. (record { name = name; value = value } ∷ more.0, more.1)) (picked rest)
+    else None
+
+-- a clause ends at its closing brace
+abbrev pub ended_clause : Option (List NamedPick × List (List ℕ)) → Option Statement
+ended_clause None = None
+ended_clause (Some (picks, [])) = Some (Clause picks)
+ended_clause (Some (picks, t ∷ later)) = None
+
+-- `{name=value, name=value}`
+unfoldable pub clause_of : List (List ℕ) → Option Statement
+clause_of [] = None
+clause_of (brace ∷ rest) = if bytes_eq brace (codes "{") then ended_clause (picked rest) else None
+
+-- a condition ends at its closing brace
+abbrev pub ended_condition : List ℕ → List ℕ → Option (List (List ℕ) × List (List ℕ)) → Option Statement
+ended_condition child parent None = None
+ended_condition child parent (Some (values, [])) = Some (Condition child parent values)
+ended_condition child parent (Some (values, t ∷ later)) = None
+
+-- `child | parent in {v1, v2}`
+unfoldable pub condition_of : List (List ℕ) → Option Statement
+condition_of (child ∷ bar ∷ parent ∷ word ∷ brace ∷ rest) =
+    if (is_word child && bytes_eq bar (codes "|")) && (is_word parent && (bytes_eq word (codes "in") && bytes_eq brace (codes "{")))
+    then ended_condition child parent (listed rest)
+    else None
+condition_of (child ∷ bar ∷ parent ∷ word ∷ []) = None
+condition_of (child ∷ bar ∷ parent ∷ []) = None
+condition_of (child ∷ bar ∷ []) = None
+condition_of (child ∷ []) = None
+condition_of [] = None
+
+-- a parameter ends with its default between brackets
+abbrev pub ended_parameter : List ℕ → List (List ℕ) → List (List ℕ) → Option Statement
+ended_parameter name values [] = None
+ended_parameter name values (left ∷ []) = None
+ended_parameter name values (left ∷ default ∷ []) = None
+ended_parameter name values (left ∷ default ∷ right ∷ []) =
+    if bytes_eq left (codes "[") && (is_word default && bytes_eq right (codes "]")) then Some (Parameter name values default) else None
+ended_parameter name values (left ∷ default ∷ right ∷ t ∷ later) = None
+
+-- the values of a parameter, and its default
+abbrev pub listed_parameter : List ℕ → Option (List (List ℕ) × List (List ℕ)) → Option Statement
+listed_parameter name None = None
+listed_parameter name (Some more) = ended_parameter name more.0 more.1
+
+-- `name {v1, v2} [default]`
+unfoldable pub parameter_of : List (List ℕ) → Option Statement
+parameter_of [] = None
+parameter_of (name ∷ []) = None
+parameter_of (name ∷ brace ∷ rest) =
+    if is_word name && bytes_eq brace (codes "{") then listed_parameter name (listed rest) else None
+
+-- the first that there is
+abbrev pub or_form : Option Statement → Option Statement → Option Statement
+or_form (Some s) later = Some s
+or_form None later = later
+
+-- what a line with these tokens states, where it has one of the forms
+unfoldable pub statement_of : List (List ℕ) → Option Statement
+statement_of tokens =
+    if is_nothing tokens then Some Nothing else or_form (clause_of tokens) (or_form (condition_of tokens) (parameter_of tokens))

@@ -1,0 +1,220 @@
+-- The space that a parameter file states, or the file's first fault with its line.
+use Rattle.std.specs.Prelude.{ℕ, ◌+◌, ◌&&◌, Bool, true, false, not, List, [], ◌∷◌, ◌++◌, Option, Some, None, Result, Ok, Err, nat_lt, nat_le, length, map, slice_index, slice_index_or, option_map, position, bytes_eq, if◌then◌else◌}
+use Rattle.std.specs.List.{list_any, filter, position_or_len}
+use Rattle.std.specs.Str.{is_utf8}
+use Rattle.plain_text.specs.Lines.{numbered_lines}
+use Rattle.plain_text.specs.Tokens.{token_texts}
+use Rattle.param_space.specs.declared.lists.Param.{Param}
+use Rattle.param_space.specs.declared.lists.Condition as condition
+use Rattle.param_space.specs.declared.lists.Pick.{Pick}
+use Rattle.param_space.specs.declared.lists.Forbidden.{Forbidden}
+use Rattle.param_space.specs.declared.lists.Part.{Part}
+use Rattle.param_space.specs.declared.lists.Part.TheVariants as part
+use Rattle.param_space.specs.declared.lists.SpaceWhat.{SpaceWhat}
+use Rattle.param_space.specs.declared.lists.SpaceWhat.TheVariants.{NoParameters, TooMany, DoubleName, DoubleValue, BadDefault, UnknownName, UnknownValue}
+use Rattle.param_space.specs.declared.lists.SpaceFault.{SpaceFault}
+use Rattle.param_space.specs.declared.lists.SpaceFault.TheVariants as space_fault
+use Rattle.param_space.specs.Space.{Lists}
+use Rattle.param_space.specs.Faults.{first_broken, texts_differ, or_else, cycle_fault, default_fault}
+use Rattle.param_files.specs.declared.faults.ParamWhat.{ParamWhat}
+use Rattle.param_files.specs.declared.faults.ParamWhat.TheVariants.{NotText, Form, Space}
+use Rattle.param_files.specs.declared.faults.ParamFault.{ParamFault}
+use Rattle.param_files.specs.declared.faults.ParamFault.TheVariants.{At, Memory}
+use Rattle.param_files.specs.declared.statements.NamedPick.{NamedPick}
+use Rattle.param_files.specs.declared.statements.Statement.{Statement}
+use Rattle.param_files.specs.declared.statements.Statement.TheVariants.{Nothing, Parameter, Condition, Clause}
+use Rattle.param_files.specs.Grammar.{statement_of}
+
+infixl 10 ◌>>=◌
+-- one reading after another, which takes its value
+abbrev pub ◌>>=◌ : {A B E : Type 0} → Result A E → (A → Result B E) → Result B E
+Ok x >>= f = f x
+Err e >>= f = Err e
+
+-- a value that is there, or else this fault
+abbrev pub or_fault : {A E : Type 0} → E → Option A → Result A E
+or_fault e None = Err e
+or_fault e (Some x) = Ok x
+
+-- the value, or else the fault that there is
+abbrev pub unless : {A : Type 0} → Option SpaceWhat → A → Result A ParamWhat
+unless None x = Ok x
+unless (Some what) x = Err (Space what)
+
+-- a rule of the space that is broken
+abbrev pub of_space : {A : Type 0} → Result A SpaceWhat → Result A ParamWhat
+of_space (Ok x) = Ok x
+of_space (Err what) = Err (Space what)
+
+-- a fault with its line
+abbrev pub in_line : {A : Type 0} → ℕ → Result A ParamWhat → Result A ParamFault
+in_line line (Ok x) = Ok x
+in_line line (Err what) = Err (At line what)
+
+-- ---- line by line
+
+-- a parameter with these values, by the number of its default among them
+abbrev pub numbered_param : List ℕ → List (List ℕ) → List ℕ → Param
+numbered_param name values default = record { name = name; values = values; default = position_or_len (bytes_eq default) values }
+
+-- the parameters among statements, in order
+unfoldable pub params_in : List Statement → List Param
+params_in [] = []
+params_in (Parameter name values default ∷ later) = numbered_param name values default ∷ params_in later
+params_in (Nothing ∷ later) = params_in later
+params_in (Condition child parent values ∷ later) = params_in later
+params_in (Clause picks ∷ later) = params_in later
+
+-- whether a statement is a condition
+abbrev pub is_condition : Statement → Bool
+is_condition Nothing = false
+is_condition (Parameter name values default) = false
+is_condition (Condition child parent values) = true
+is_condition (Clause picks) = false
+
+-- whether a statement is a clause
+abbrev pub is_clause : Statement → Bool
+is_clause Nothing = false
+is_clause (Parameter name values default) = false
+is_clause (Condition child parent values) = false
+is_clause (Clause picks) = true
+
+-- the first rule of a line that a statement breaks, after these statements
+unfoldable pub statement_fault : List Statement → Statement → Option SpaceWhat
+statement_fault earlier Nothing = None
+statement_fault earlier (Parameter name values default) = first_broken (
+    (nat_lt (length (params_in earlier)) 256 && nat_le (length values) 256, TooMany)
+    ∷ (not (list_any (λ p. bytes_eq name p.name) (params_in earlier)), DoubleName)
+    ∷ (texts_differ values, DoubleValue)
+    ∷ (list_any (bytes_eq default) values, BadDefault)
+    ∷ [])
+statement_fault earlier (Condition child parent values) = first_broken (
+    (nat_lt (length (filter is_condition earlier)) 1024, TooMany)
+    ∷ (texts_differ values, DoubleValue)
+    ∷ [])
+statement_fault earlier (Clause picks) = first_broken (
+    (nat_lt (length (filter is_clause earlier)) 4096 && nat_le (length picks) 16, TooMany)
+    ∷ (texts_differ (map (λ k. k.name) picks), DoubleName)
+    ∷ [])
+
+-- a statement that keeps the rules of a line, after these statements
+abbrev pub accepted : List Statement → Statement → Result Statement ParamWhat
+accepted earlier s = unless (statement_fault earlier s) s
+
+-- what a line states, after these statements, or its first fault
+unfoldable pub line_read : List Statement → List ℕ → Result Statement ParamWhat
+line_read earlier line =
+    if is_utf8 line then or_fault Form (statement_of (token_texts line)) >>= accepted earlier else Err NotText
+
+-- what numbered lines state, after these statements, or the first fault
+unfoldable pub lines_read : List (ℕ × Statement) → List (ℕ × List ℕ) → Result (List (ℕ × Statement)) ParamFault
+lines_read earlier [] = Ok earlier
+lines_read earlier ((number, line) ∷ later) =
+    in_line number (line_read (map (λ s. s.1) earlier) line) >>= λ s. lines_read (earlier ++ (number, s) ∷ []) later
+
+-- ---- names and values as numbers
+
+-- an element before others, where all are there
+abbrev pub before : {B : Type 0} → Option B → Option (List B) → Option (List B)
+before None ys = None
+before (Some y) None = None
+before (Some y) (Some ys) = Some (y ∷ ys)
+
+-- what each element is read as, where all have a reading
+abbrev pub all_some : {A B : Type 0} → (A → Option B) → List A → Option (List B)
+all_some f [] = Some []
+all_some f (x ∷ xs) = before (f x) (all_some f xs)
+
+-- the number of the parameter with this name
+abbrev pub param_number : List Param → List ℕ → Option ℕ
+param_number params name = position (λ p. bytes_eq p.name name) params
+
+-- the number of a value of the parameter with this number
+abbrev pub value_number : List Param → ℕ → List ℕ → Option ℕ
+value_number params p value = position (λ v. bytes_eq v value) (slice_index_or (map (λ q. q.values) params) p [])
+
+-- a condition by numbers: its names, then its values
+unfoldable pub condition_numbered : List Param → List ℕ → List ℕ → List (List ℕ) → Result condition.Condition SpaceWhat
+condition_numbered params child parent values =
+    or_fault UnknownName (param_number params child) >>= λ c.
+    or_fault UnknownName (param_number params parent) >>= λ p.
+    or_fault UnknownValue (all_some (value_number params p) values) >>= λ vs.
+    Ok (record { child = c; parent = p; values = vs })
+
+-- a pick by numbers
+unfoldable pub pick_numbered : List Param → NamedPick → Option Pick
+pick_numbered params pick = pick_of (param_number params pick.name)
+  where
+    pick_of : Option ℕ → Option Pick
+    pick_of None = None
+    pick_of (Some p) = option_map (λ v. record { param = p; value = v }) (value_number params p pick.value)
+
+-- a clause by numbers: all its names, then its values
+unfoldable pub clause_numbered : List Param → List NamedPick → Result Forbidden SpaceWhat
+clause_numbered params picks =
+    or_fault UnknownName (all_some (λ k. param_number params k.name) picks) >>= λ _.
+    or_fault UnknownValue (all_some (pick_numbered params) picks) >>= λ numbers.
+    Ok (record { picks = numbers })
+
+-- conditions and clauses by numbers, each with its line
+pub record Numbered : Type 0 where
+  pub conditions : List (ℕ × condition.Condition)
+  pub clauses : List (ℕ × Forbidden)
+
+-- the conditions and the clauses of statements by numbers, or the first fault
+unfoldable pub all_numbered : List Param → List (ℕ × Statement) → Result Numbered ParamFault
+all_numbered params [] = Ok (record { conditions = []; clauses = [] })
+all_numbered params ((line, Nothing) ∷ later) = all_numbered params later
+all_numbered params ((line, Parameter name values default) ∷ later) = all_numbered params later
+all_numbered params ((line, Condition child parent values) ∷ later) =
+    in_line line (of_space (condition_numbered params child parent values)) >>= λ c.
+    all_numbered params later >>= λ n.
+    Ok (record { conditions = (line, c) ∷ n.conditions; clauses = n.clauses })
+all_numbered params ((line, Clause picks) ∷ later) =
+    in_line line (of_space (clause_numbered params picks)) >>= λ f.
+    all_numbered params later >>= λ n.
+    Ok (record { conditions = n.conditions; clauses = (line, f) ∷ n.clauses })
+
+-- ---- the file
+
+-- the lists of parameters and of what is said of them by numbers
+abbrev pub lists_of : List Param → Numbered → Lists
+lists_of params numbered = record {
+  params = params;
+  conditions = map (λ c. c.1) numbered.conditions;
+  forbidden = map (λ f. f.1) numbered.clauses;
+}
+
+-- the line of an element of the lists
+abbrev pub line_of : Numbered → Part → ℕ → ℕ
+line_of numbered part.Param place = 0
+line_of numbered part.Condition place = slice_index (map (λ c. c.0) numbered.conditions) place
+line_of numbered part.Forbidden place = slice_index (map (λ f. f.0) numbered.clauses) place
+line_of numbered part.Whole place = 0
+
+-- lists without a fault as a whole, or the fault with its line
+abbrev pub without_fault : Numbered → Lists → Option SpaceFault → Result Lists ParamFault
+without_fault numbered lists None = Ok lists
+without_fault numbered lists (Some (space_fault.At part place what)) = Err (At (line_of numbered part place) (Space what))
+without_fault numbered lists (Some space_fault.Memory) = Err Memory
+
+-- no cycle, and no clause that forbids the defaults
+abbrev pub whole : Numbered → Lists → Result Lists ParamFault
+whole numbered lists = without_fault numbered lists (or_else (cycle_fault lists) (default_fault lists))
+
+-- one or more parameters
+abbrev pub some_params : List Param → Result (List Param) ParamFault
+some_params [] = Err (At 0 (Space NoParameters))
+some_params (p ∷ later) = Ok (p ∷ later)
+
+-- the space that statements with their lines make, or the first fault
+unfoldable pub space_stated : List (ℕ × Statement) → Result Lists ParamFault
+space_stated stated =
+    some_params (params_in (map (λ s. s.1) stated)) >>= λ params.
+    all_numbered params stated >>= λ numbered.
+    whole numbered (lists_of params numbered)
+
+-- the space of a file, or its first fault
+unfoldable pub params_read : List ℕ → Result Lists ParamFault
+params_read text =
+    if nat_lt 16777216 (length text) then Err (At 0 (Space TooMany)) else lines_read [] (numbered_lines text) >>= space_stated

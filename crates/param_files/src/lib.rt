@@ -1,0 +1,12 @@
+//! Parameter files: a space as text, read and printed.
+//!
+//! A `#` begins a comment up to the line's end, and blanks around tokens are free. A line is
+//! a parameter, `name {v1, v2} [default]`; a condition, `child | parent in {v1, v2}`; or a
+//! forbidden clause, `{name=value, name=value}`. A line without tokens means nothing, and so
+//! does a heading: `Conditionals:` or `Forbidden:` alone, in any ASCII case.
+#![tactic(auto)]
+
+mod faults;
+mod statements;
+
+pub use faults::{ParamFault, ParamWhat};
