@@ -1,9 +1,10 @@
 //! The settings of a configuration as text.
-ghost use Rattle.std.specs.Prelude.{◌≡◌, ◌++◌, IfOk, OnOk, OnErr, codes};
+ghost use Rattle.std.specs.Prelude.{◌≡◌, ◌++◌, ◌≤◌, false, length, slice_index_or, IfOk, OnOk, codes};
 ghost use Rattle.param_space.specs.Space.{Belongs};
-ghost use Rattle.param_space.specs.Settings.{named_values, setting_text, settings_text};
+ghost use Rattle.param_space.specs.Settings.{named_values, at_places, setting_text, settings_text};
 
 use crate::lists::Param;
+use crate::marks::Marks;
 use objective::Memory;
 use std::alloc::Global;
 
@@ -17,18 +18,27 @@ fn push_setting(out: &mut Vec<u8>, name: &str, value: &str) -> Result<(), Memory
     Ok(())
 }
 
-/// The settings of these parameters with these value numbers, parted by one space.
-pub fn made_settings(alloc: Global, params: &[Param], values: &[u16]) -> Result<Vec<u8>, Memory>
-    requires { Belongs params.now values.now }
-    ensures { IfOk result (λ text. text.items ≡ settings_text (named_values params.now values.now)) }
+/// The settings of the marked ones of these parameters with these value numbers, parted by
+/// one space.
+pub fn made_settings(
+    alloc: Global,
+    params: &[Param],
+    values: &[u16],
+    active: &Marks,
+) -> Result<Vec<u8>, Memory>
+    requires belongs { Belongs params.now values.now }
+    requires sizes { length params.now ≤ length active.now }
+    ensures { IfOk result (λ text. text.items ≡ settings_text (at_places (λ i. slice_index_or active.now i false) 0 (named_values params.now values.now))) }
 {
     let mut out = Vec::new(alloc);
     for (i, param) in params.iter().enumerate() {
-        if i > 0 {
-            out.push(b' ')?;
+        if active[i] {
+            if !out.is_empty() {
+                out.push(b' ')?;
+            }
+            let value = &param.values.as_slice()[usize::from(values[i])];
+            push_setting(&mut out, param.name.as_str(), value.as_str())?;
         }
-        let value = &param.values.as_slice()[values[i] as usize];
-        push_setting(&mut out, param.name.as_str(), value.as_str())?;
     }
     Ok(out)
 }
