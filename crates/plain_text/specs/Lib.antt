@@ -5,3 +5,4 @@ pub mod Times
 pub mod Tokens
 pub mod TokenPlaces
 pub mod Lines
+pub mod LinePlaces
