@@ -80,7 +80,6 @@ impl<'a> Iterator for TextLines<'a> {
 }
 
 /// The lines of a text as texts, each with its number.
-#[tactic(auto, unfolding(crate::specs::Lines::numbered_lines))]
 pub fn numbered_lines<'a>(alloc: Global, text: &'a str) -> Result<Vec<(u32, &'a str)>, Memory>
     requires { length text.now < 2 ^ 32 }
     ensures { IfOk result (λ v. map (λ l. (l.0, l.1.now)) v.items ≡ numbered_in text.now) }
