@@ -8,3 +8,4 @@ pub mod TokensAlong
 pub mod TokenTexts
 pub mod Lines
 pub mod LinePlaces
+pub mod LineTexts
