@@ -2,3 +2,5 @@ pub mod Names
 pub mod Texts
 pub mod Marking
 pub mod Ordering
+pub mod Meeting
+pub mod Checks

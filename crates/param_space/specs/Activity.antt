@@ -49,15 +49,20 @@ pub record IsRanked (lists : Lists) (rank : ℕ → ℕ) : Type 0 where
   pub bounded : (p : ℕ) → rank p ≤ length lists.params
 
 -- by the activity within one generation less
-active_by_parents : (lists : Lists) (config : List ℕ) (p : ℕ) → is_active lists config p ≡ list_all (is_met config (is_active_within (length lists.params) lists.conditions config) p) lists.conditions
+active_by_parents : (n : ℕ) (cs : List Condition) (config : List ℕ) (p : ℕ) → is_active_within (suc n) cs config p ≡ list_all (is_met config (is_active_within n cs config) p) cs
 unfolding is_active_within
-active_by_parents lists config p = refl
+active_by_parents n cs config p = refl
+
+-- with more generations than ranks a parameter is active exactly where each condition with it as child is met by an active parent
+pub active_within_is : (n : ℕ) (cs : List Condition) (rank : ℕ → ℕ) → Rises rank cs → ((p : ℕ) → rank p ≤ n) → (config : List ℕ) (p : ℕ)
+    → is_active_within (suc n) cs config p ≡ list_all (is_met config (is_active_within (suc n) cs config) p) cs
+active_within_is n cs rank rises bounded config p =
+    active_by_parents n cs config p ∙ met_alike rank cs config (is_active_within n cs config) (is_active_within (suc n) cs config) p rises
+    (λ q less. enough_generations rank cs config n q rises (let most = bounded p in omega (arith, less, most)))
 
 -- a parameter is active exactly where each condition with it as child is met by an active parent
 pub active_is : (lists : Lists) (rank : ℕ → ℕ) → IsRanked lists rank → (config : List ℕ) (p : ℕ) → is_active lists config p ≡ list_all (is_met config (is_active lists config) p) lists.conditions
-active_is lists rank ranked config p =
-    active_by_parents lists config p ∙ met_alike rank lists.conditions config (is_active_within (length lists.params) lists.conditions config) (is_active lists config) p ranked.rises
-    (λ q less. enough_generations rank lists.conditions config (length lists.params) q ranked.rises (let most = ranked.bounded p in omega (arith, less, most)))
+active_is lists rank ranked config p = active_within_is (length lists.params) lists.conditions rank ranked.rises ranked.bounded config p
 
 -- the values that a configuration has once it is settled
 settled_value : (lists : Lists) (config : List ℕ) (place : ℕ) (ps : List Param) (vs : List ℕ) (i : ℕ) → Belongs ps vs → i < length ps → is_active lists config (place + i) ≡ true

@@ -137,11 +137,24 @@ default_rules lists f = (not (is_forbidden_by lists (defaults lists.params) f), 
 abbrev pub default_fault : Lists → Option SpaceFault
 default_fault lists = first_in part.Forbidden (λ _ f. first_broken (default_rules lists f)) 0 lists.forbidden
 
+-- the first fault of three lists, each by itself
+abbrev pub lists_fault : Lists → Option SpaceFault
+lists_fault lists =
+    or_else (params_fault lists.params) (or_else (conditions_fault lists.params lists.conditions) (clauses_fault lists.params lists.forbidden))
+
+-- the first fault of them as a whole
+abbrev pub whole_fault : Lists → Option SpaceFault
+whole_fault lists = or_else (cycle_fault lists) (default_fault lists)
+
 -- the first fault of three lists
 abbrev pub space_fault : Lists → Option SpaceFault
-space_fault lists =
-    or_else (params_fault lists.params) (or_else (conditions_fault lists.params lists.conditions)
-        (or_else (clauses_fault lists.params lists.forbidden) (or_else (cycle_fault lists) (default_fault lists))))
+space_fault lists = or_else (lists_fault lists) (whole_fault lists)
+
+-- lists of which each by itself has no fault
+pub record AreFaultless (lists : Lists) : Type 0 where
+  pub params : params_fault lists.params ≡ None
+  pub conditions : conditions_fault lists.params lists.conditions ≡ None
+  pub clauses : clauses_fault lists.params lists.forbidden ≡ None
 
 -- lists that make a space: they break no rule
 pub record IsSpace (lists : Lists) : Type 0 where

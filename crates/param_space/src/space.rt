@@ -5,7 +5,7 @@ ghost use Rattle.param_space.specs.Faults.{space_fault, IsCause, IsSpace};
 ghost use Rattle.param_space.specs.Configurations.{is_active as active, settled, is_canonical as canonical, is_allowed as allowed, IsConfig};
 ghost use Rattle.param_space.specs.Settings.{active_values, settings_text};
 
-use crate::activity::{activity, forbidding};
+use crate::activity::{activity, forbids_any};
 use crate::checking::checked_order;
 use crate::config::Config;
 use crate::copies::{copied_clauses, copied_conditions, copied_params};
@@ -144,7 +144,7 @@ impl Space {
         ensures { result ≡ allowed self.now config.now }
     {
         let active = self.marks(config);
-        forbidding(self.forbidden.as_slice(), config.values(), &active).is_none()
+        !forbids_any(self.forbidden.as_slice(), config.values(), &active)
     }
 
     /// The same space.
