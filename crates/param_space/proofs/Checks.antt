@@ -1,21 +1,23 @@
 -- What marks and ranks that were made say of the rules of a space.
-use Rattle.std.proofs.Common.{ℕ, suc, ◌≡◌, ◌<◌, ◌≤◌, Bool, true, false, not, ◌&&◌, ◌==◌, List, [], ◌∷◌, Option, Some, None, Result, Ok, Err, IfErr, length, slice_index, refl, sym, ap, ◌∙◌, arith}
-use Rattle.std.specs.List.{All, list_all, slice_index_or}
+use Rattle.std.proofs.Common.{ℕ, suc, ◌≡◌, ◌<◌, ◌≤◌, Bool, false, not, ◌&&◌, ◌==◌, List, [], ◌∷◌, Option, Some, None, Result, Ok, Err, IfErr, length, slice_index, sym, ap, subst, ◌∙◌, arith}
+use Rattle.std.specs.List.{All, list_any, slice_index_or}
 use Rattle.std.proofs.lemmas.List.{length-map}
 use Rattle.param_space.specs.declared.lists.Condition.{Condition}
 use Rattle.param_space.specs.declared.lists.Forbidden.{Forbidden}
 use Rattle.param_space.specs.declared.lists.Part.TheVariants as part
-use Rattle.param_space.specs.declared.lists.Pick.{Pick}
 use Rattle.param_space.specs.declared.lists.SpaceWhat.TheVariants.{Cycle, DefaultForbidden}
 use Rattle.param_space.specs.declared.lists.SpaceFault.{SpaceFault}
 use Rattle.param_space.specs.declared.lists.SpaceFault.TheVariants.{At, Memory}
-use Rattle.param_space.specs.Space.{Lists, defaults}
+use Rattle.param_space.specs.Space.{Lists, defaults, Belongs}
 use Rattle.param_space.specs.Ancestors.{is_ancestor_within}
 use Rattle.param_space.specs.Acyclic.{IsNamed, IsAcyclic, rank, rank_rises}
 use Rattle.param_space.specs.Activity.{all_alike}
-use Rattle.param_space.specs.Configurations.{is_active_within, is_active, is_picked, is_forbidden_by}
+use Rattle.param_space.specs.Configurations.{is_active_within, is_active, is_picked, is_forbidden_by, is_allowed}
 use Rattle.param_space.specs.Faults.{first_broken, first_in, or_else, params_fault, conditions_fault, clauses_fault, cycle_rules, cycle_fault, default_rules, default_fault, lists_fault, AreFaultless, IsSpace, IsCause}
 use Rattle.param_space.specs.Marks.{is_marked, is_marked_by, ArePicksNamed}
+use Rattle.param_space.specs.Belonging.{length-Belongs, few_params}
+use Rattle.param_space.specs.Soundness.{conditions_named, conditions_acyclic, faultless_picks}
+use Rattle.param_space.proofs.Marking.{any_alike}
 use Rattle.param_space.specs.Rules.{first_in-alike, neither}
 
 -- marks of the parameters that are their own ancestors tell the first cycle
@@ -79,5 +81,42 @@ pub default_made : (lists : Lists) (values values' : List ℕ) (active : List Bo
 default_made lists values values' active result few named made made' marks found =
     let long : length values ≡ length lists.params = ap length made ∙ length-map lists.params (λ p. p.default) in
     let marked : (p : ℕ) → p < 256 → slice_index_or active p false ≡ is_active lists (defaults lists.params) p =
-        λ p lt. marks p lt ∙ ap (λ n. is_active_within (suc n) lists.conditions values p) long ∙ ap (λ vs. is_active lists vs p) made in
+    λ p lt. marks p lt ∙ ap (λ n. is_active_within (suc n) lists.conditions values p) long ∙ ap (λ vs. is_active lists vs p) made in
     found ∙ ap (λ vs. first_in part.Forbidden (λ _ f. first_broken ((not (is_marked_by active vs f), DefaultForbidden) ∷ [])) 0 lists.forbidden) made' ∙ default_told lists active few named marked
+
+-- what is known of a space's conditions at a configuration, as lists that were read
+pub record IsReadable (n : ℕ) (cs : List Condition) : Type 0 where
+  pub named : All (IsNamed n) cs
+  pub acyclic : IsAcyclic n cs
+  pub few : n ≤ 256
+
+pub readable : (lists : Lists) (config : List ℕ) (cs : List Condition) (values : List ℕ) → IsSpace lists → Belongs lists.params config → cs ≡ lists.conditions → values ≡ config → IsReadable (length values) cs
+readable lists config cs values space belongs same-conditions same-values =
+    let long : length values ≡ length lists.params = ap length same-values ∙ length-Belongs lists.params config belongs in
+    subst (λ n. IsReadable n cs) (sym long) (subst (IsReadable (length lists.params)) (sym same-conditions) (record {
+      named = conditions_named lists space;
+      acyclic = conditions_acyclic lists space;
+      few = few_params lists.params space.params;
+    }))
+
+-- activity that was made of lists that were read
+pub activity_read : (lists : Lists) (config : List ℕ) (cs : List Condition) (values : List ℕ) → Belongs lists.params config → cs ≡ lists.conditions → values ≡ config
+    → (p : ℕ) → is_active_within (suc (length values)) cs values p ≡ is_active lists config p
+activity_read lists config cs values belongs same-conditions same-values p =
+    ap (λ n. is_active_within (suc n) cs values p) (ap length same-values ∙ length-Belongs lists.params config belongs)
+    ∙ ap (λ ds. is_active_within (suc (length lists.params)) ds values p) same-conditions
+    ∙ ap (λ vs. is_active lists vs p) same-values
+
+-- the clauses of a space, as they were read
+pub picks_read : (lists : Lists) (config : List ℕ) (clauses : List Forbidden) (values : List ℕ) → IsSpace lists → Belongs lists.params config → clauses ≡ lists.forbidden → values ≡ config → All (ArePicksNamed (length values)) clauses
+picks_read lists config clauses values space belongs same same-values =
+    subst (λ n. All (ArePicksNamed n) clauses) (sym (ap length same-values ∙ length-Belongs lists.params config belongs))
+    (subst (All (ArePicksNamed (length lists.params))) (sym same) (faultless_picks lists.params lists.forbidden space.clauses))
+
+-- whether a clause forbids a configuration, by the marks of its active parameters
+pub allowed_told : (lists : Lists) (config : List ℕ) (active : List Bool) (clauses : List Forbidden) (values : List ℕ) (found : Bool) → IsSpace lists → length lists.params ≤ 256 → clauses ≡ lists.forbidden → values ≡ config
+    → ((p : ℕ) → p < 256 → slice_index_or active p false ≡ is_active lists config p) → found ≡ list_any (is_marked_by active values) clauses → not found ≡ is_allowed lists config
+allowed_told lists config active clauses values found space few same same-values marked is =
+    ap not (is ∙ ap (λ fs. list_any (is_marked_by active values) fs) same ∙ ap (λ vs. list_any (is_marked_by active vs) lists.forbidden) same-values
+    ∙ any_alike (ArePicksNamed (length lists.params)) (is_marked_by active config) (is_forbidden_by lists config) lists.forbidden (faultless_picks lists.params lists.forbidden space.clauses)
+    (λ f named. forbidden_told lists config active f few named marked))

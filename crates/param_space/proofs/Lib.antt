@@ -4,3 +4,4 @@ pub mod Marking
 pub mod Ordering
 pub mod Meeting
 pub mod Checks
+pub mod Settling

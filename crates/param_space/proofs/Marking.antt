@@ -1,5 +1,5 @@
 -- Marks of parameters, one condition or parameter after another.
-use Rattle.std.proofs.Common.{ℕ, zero, suc, ◌≡◌, ◌≢◌, ◌<◌, ◌≤◌, ◌+◌, ◌⊎◌, inl, inr, Bool, true, false, cond, ◌&&◌, ◌||◌, ◌==◌, List, [], ◌∷◌, length, get_or, set, slice_index, slice_set, replicate, eq-or-lt_of_le, refl, sym, ap, ◌∙◌, arith, add-one}
+use Rattle.std.proofs.Common.{ℕ, zero, suc, ◌≡◌, ◌≢◌, ◌<◌, ◌≤◌, ◌+◌, ◌⊎◌, inl, inr, Bool, true, false, cond, ◌&&◌, ◌||◌, ◌==◌, List, [], ◌∷◌, length, get_or, slice_index, slice_set, replicate, eq-or-lt_of_le, refl, sym, ap, ◌∙◌, arith, add-one}
 use Rattle.std.specs.List.{All, list_any, slice_index_or}
 use Rattle.std.proofs.lemmas.Grind.{get_or-set_at}
 use Rattle.std.proofs.lemmas.List.{get_or-set_other}
@@ -7,7 +7,7 @@ use Rattle.std.proofs.lemmas.List.Elements.{All-head, All-tail, All-weaker}
 use Rattle.param_space.specs.declared.lists.Condition.{Condition}
 use Rattle.param_space.specs.Ancestors.{is_ancestor_within}
 use Rattle.param_space.specs.Acyclic.{IsNamed}
-use Rattle.param_space.specs.Counting.{count, count-le}
+use Rattle.param_space.specs.Counting.{count}
 
 -- no mark is set at first
 pub unmarked : (n a : ℕ) → get_or (replicate n false) a false ≡ false
@@ -21,7 +21,7 @@ unfolding is_ancestor_within
 no_generation cs p a = refl
 
 -- two tests that agree on each element agree on whether one passes
-any_alike : {X : Type 0} (P : X → Type 0) (f g : X → Bool) (xs : List X) → All P xs → ((x : X) → P x → f x ≡ g x) → list_any f xs ≡ list_any g xs
+pub any_alike : {X : Type 0} (P : X → Type 0) (f g : X → Bool) (xs : List X) → All P xs → ((x : X) → P x → f x ≡ g x) → list_any f xs ≡ list_any g xs
 any_alike P f g [] h same = refl
 any_alike P f g (x ∷ xs) h same = ap (λ b. b || list_any f xs) (same x (All-head P x xs h)) ∙ ap (λ b. g x || b) (any_alike P f g xs (All-tail P x xs h) same)
 
@@ -31,7 +31,7 @@ pub generation_more : (cs : List Condition) (p g a : ℕ) (known : List Bool) �
 unfolding is_ancestor_within
 generation_more cs p g a known named same =
     rw add-one (any_alike (IsNamed 256) (λ c. (c.parent == a) && ((c.child == p) || slice_index_or known c.child false)) (λ c. (c.parent == a) && ((c.child == p) || is_ancestor_within g cs p c.child)) cs named
-        (λ c here. ap (λ b. (c.parent == a) && ((c.child == p) || b)) (same c.child here.child)))
+    (λ c here. ap (λ b. (c.parent == a) && ((c.child == p) || b)) (same c.child here.child)))
 
 -- one more number is counted where it passes
 pub count_one : (f : ℕ → Bool) (n : ℕ) → f n ≡ true → count f (n + 1) ≡ count f n + 1

@@ -1,6 +1,6 @@
 -- What the conditions say of a parameter, gone through in an order with parents first.
-use Rattle.std.proofs.Common.{ℕ, zero, suc, ◌≡◌, ◌≢◌, ◌<◌, ◌≤◌, ◌+◌, ◌-◌, Bool, true, false, not, ◌&&◌, ◌||◌, ◌==◌, ◌⊎◌, inl, inr, List, [], ◌∷◌, ◌++◌, length, map, take, drop, get_or, slice_set, refl, sym, ap, subst, ◌∙◌, arith, add-one}
-use Rattle.std.specs.List.{All, AllPass, list_any, list_all, slice_index_or}
+use Rattle.std.proofs.Common.{ℕ, suc, ◌≡◌, ◌≢◌, ◌<◌, ◌+◌, Bool, true, false, not, ◌&&◌, ◌||◌, ◌==◌, List, [], ◌∷◌, length, take, drop, get_or, slice_set, refl, sym, ap, subst, ◌∙◌, arith}
+use Rattle.std.specs.List.{All, list_any, list_all, slice_index_or}
 use Rattle.std.specs.List.Sorted.{IsPermutation}
 use Rattle.std.proofs.lemmas.Bool.Decides.{nat_tests}
 use Rattle.std.proofs.lemmas.Grind.{get_or-set_at}
@@ -40,9 +40,9 @@ pub parent_done : (config : List ℕ) (active : ℕ → Bool) (cs : List Conditi
 parent_done config active cs i first lt =
     let q : ℕ = (condition_at cs i).parent in
     let later : list_all (is_met config active q) (drop i cs) ≡ true =
-        others_met config active q (drop i cs) (λ k below same. first i (i + k) (omega arith) (omega (arith, below, length-drop i cs)) (sym (ap (λ c. c.child) (get_or-drop i cs k no_condition)) ∙ same)) in
+    others_met config active q (drop i cs) (λ k below same. first i (i + k) (omega arith) (omega (arith, below, length-drop i cs)) (sym (ap (λ c. c.child) (get_or-drop i cs k no_condition)) ∙ same)) in
     let both : list_all (is_met config active q) cs ≡ list_all (is_met config active q) (take i cs) && list_all (is_met config active q) (drop i cs) =
-        ap (list_all (is_met config active q)) (sym (take-append-drop i cs)) ∙ list_all-append (is_met config active q) (take i cs) (drop i cs) in
+    ap (list_all (is_met config active q)) (sym (take-append-drop i cs)) ∙ list_all-append (is_met config active q) (take i cs) (drop i cs) in
     sym (both ∙ ap (λ b. list_all (is_met config active q) (take i cs) && b) later ∙ and-true (list_all (is_met config active q) (take i cs)))
 
 -- what is known of an order of the conditions of a configuration with n values
@@ -79,9 +79,9 @@ pub met_told : (n : ℕ) (cs : List Condition) (order config : List ℕ) (i : �
     → met ≡ list_any (λ v. slice_index_or config c.parent 0 == v) c.values && is_active_within (suc n) cs config c.parent
 met_told n cs order config i c marks met known lt at so_far below is =
     let done : said n cs order config i c.parent ≡ is_active_within (suc n) cs config c.parent =
-        subst (λ d. said n cs order config i d.parent ≡ is_active_within (suc n) cs config d.parent) (sym at)
-        (parent_done config (is_active_within (suc n) cs config) (in_order cs order) i known.ordered.parents_first (omega (arith, lt, length-map order (condition_at cs)))
-            ∙ all_said n cs order config known (condition_at (in_order cs order) i).parent) in
+    subst (λ d. said n cs order config i d.parent ≡ is_active_within (suc n) cs config d.parent) (sym at)
+    (parent_done config (is_active_within (suc n) cs config) (in_order cs order) i known.ordered.parents_first (omega (arith, lt, length-map order (condition_at cs)))
+    ∙ all_said n cs order config known (condition_at (in_order cs order) i).parent) in
     is ∙ ap (λ b. list_any (λ v. slice_index_or config c.parent 0 == v) c.values && b) (so_far c.parent below ∙ done)
 
 -- a condition that is met changes no mark

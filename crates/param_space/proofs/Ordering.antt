@@ -1,6 +1,6 @@
 -- Conditions sorted by the rank of their children.
-use Rattle.std.proofs.Common.{ℕ, zero, suc, ◌≡◌, ◌≢◌, ◌<◌, ◌≤◌, ◌+◌, ◌++◌, Bool, true, false, List, [], ◌∷◌, length, map, get_or, slice_index, refl, sym, ap, subst, ◌∙◌, arith}
-use Rattle.std.specs.List.{All, range_with_len, slice_index_or}
+use Rattle.std.proofs.Common.{ℕ, ◌≡◌, ◌<◌, ◌≤◌, ◌+◌, ◌++◌, false, List, [], ◌∷◌, length, map, get_or, slice_index, refl, sym, ap, subst, ◌∙◌, arith}
+use Rattle.std.specs.List.{All, range_with_len}
 use Rattle.std.specs.List.Sorted.{IsPermutation, IsSorted}
 use Rattle.std.specs.declared.cmp.Ordering.{Ordering}
 use Rattle.std.specs.Ordering.{nat_cmp, ordering_then, is_lt}
@@ -64,7 +64,7 @@ all_ranked : (ranks : List ℕ) (cs : List Condition) → All (IsRankedPair rank
 all_ranked ranks cs =
     All-map (IsRankedPair ranks cs) (ranked ranks cs) (range_with_len 0 (length cs))
     (All-from_get_or (λ i. IsRankedPair ranks cs (ranked ranks cs i)) (range_with_len 0 (length cs)) 0
-        (λ i lt. (let at : get_or (range_with_len 0 (length cs)) i 0 ≡ 0 + i = get_or-range_with_len 0 (length cs) i 0 (omega (arith, lt, length-range_with_len 0 (length cs))) in omega (arith, at, lt, length-range_with_len 0 (length cs)), refl)))
+    (λ i lt. (let at : get_or (range_with_len 0 (length cs)) i 0 ≡ 0 + i = get_or-range_with_len 0 (length cs) i 0 (omega (arith, lt, length-range_with_len 0 (length cs))) in omega (arith, at, lt, length-range_with_len 0 (length cs)), refl)))
 
 parents_first : (ranks : List ℕ) (cs : List Condition) (sorted : List (ℕ × ℕ)) → All (λ c. slice_index ranks c.parent < slice_index ranks c.child) cs → All (IsRankedPair ranks cs) sorted → IsSorted compared sorted
     → AreParentsFirst (map (condition_of cs) sorted)

@@ -2,12 +2,12 @@
 use Rattle.std.proofs.Common.{ℕ, zero, suc, ◌+◌, ◌≡◌, ◌<◌, ◌≤◌, Bool, true, false, not, ◌&&◌, ◌||◌, ◌==◌, cond, List, [], ◌∷◌, length, get_or, refl, sym, ap, subst, ◌∙◌, arith}
 use Rattle.std.specs.List.{All, list_any, list_all, slice_index_or}
 use Rattle.std.proofs.lemmas.Bool.Decides.{nat_tests}
-use Rattle.std.proofs.lemmas.List.Elements.{All-nil, All-cons, All-head, All-tail}
+use Rattle.std.proofs.lemmas.List.Elements.{All-head, All-tail}
 use Rattle.std.proofs.lemmas.Slice.Eq.{bytes_eq-Decides}
 use Rattle.param_space.specs.declared.lists.Param.{Param}
 use Rattle.param_space.specs.declared.lists.Condition.{Condition}
 use Rattle.param_space.specs.Space.{Lists, Belongs, defaults}
-use Rattle.param_space.specs.Configurations.{is_active_within, is_active, settled_from, settled, is_canonical, is_forbidden_by, is_allowed, IsConfig}
+use Rattle.param_space.specs.Configurations.{is_active_within, is_active, settled_from, settled, is_canonical}
 
 -- the condition, where it has this child, has a listed value of its parent, which is active
 abbrev pub is_met : List ℕ → (ℕ → Bool) → ℕ → Condition → Bool
@@ -88,19 +88,21 @@ settled_active_below lists rank ranked named config belongs zero p below = absur
 settled_active_below lists rank ranked named config belongs (suc k) p below =
     active_is lists rank ranked (settled lists config) p
     ∙ all_alike (λ c. (rank c.parent < rank c.child) × (c.parent < length lists.params)) (is_met (settled lists config) (is_active lists (settled lists config)) p) (is_met config (is_active lists config) p) lists.conditions
-        (both lists.conditions ranked.rises named)
-        (λ c holds. at_child c (c.child == p) refl holds.1 (λ e. settled_active_below lists rank ranked named config belongs k c.parent
-            (let child : c.child ≡ p = grind (arith, nat_tests, e) in omega (arith, holds.0, below, ap rank child))))
+    (both lists.conditions ranked.rises named)
+    (λ c holds. at_child c (c.child == p) refl holds.1 (λ e. settled_active_below lists rank ranked named config belongs k c.parent
+    (let child : c.child ≡ p = grind (arith, nat_tests, e) in omega (arith, holds.0, below, ap rank child))))
     ∙ sym (active_is lists rank ranked config p)
   where
     both : (cs : List Condition) → All (λ c. rank c.parent < rank c.child) cs → All (λ c. c.parent < length lists.params) cs → All (λ c. (rank c.parent < rank c.child) × (c.parent < length lists.params)) cs
     both cs h k = λ i d lt. (h i d lt, k i d lt)
+
     same_met : (c : Condition) (a b : Bool) → is_active lists (settled lists config) c.parent ≡ a → is_active lists config c.parent ≡ b → a ≡ b → c.parent < length lists.params
         → (list_any (λ v. slice_index_or (settled lists config) c.parent 0 == v) c.values && a) ≡ (list_any (λ v. slice_index_or config c.parent 0 == v) c.values && b)
     same_met c a true e f same lt =
         let value : get_or (settled lists config) c.parent 0 ≡ get_or config c.parent 0 = settled_value lists config 0 lists.params config c.parent belongs lt (ap (is_active lists config) (let z : 0 + c.parent ≡ c.parent = omega arith in z) ∙ f) in
         rw same (ap (λ w. list_any (λ v. w == v) c.values && true) value)
     same_met c a false e f same lt = rw same (never_both (list_any (λ v. slice_index_or (settled lists config) c.parent 0 == v) c.values) (list_any (λ v. slice_index_or config c.parent 0 == v) c.values))
+
     at_child : (c : Condition) (b : Bool) → (c.child == p) ≡ b → c.parent < length lists.params → ((c.child == p) ≡ true → is_active lists (settled lists config) c.parent ≡ is_active lists config c.parent)
         → not b || (list_any (λ v. slice_index_or (settled lists config) c.parent 0 == v) c.values && is_active lists (settled lists config) c.parent) ≡ not b || (list_any (λ v. slice_index_or config c.parent 0 == v) c.values && is_active lists config c.parent)
     at_child c false e lt same = refl

@@ -1,12 +1,12 @@
 -- Where no parameter is its own ancestor, each has more ancestors than its parents.
-use Rattle.std.proofs.Common.{ℕ, zero, suc, ◌+◌, ◌≡◌, ◌<◌, ◌≤◌, ◌⊎◌, inl, inr, Bool, true, false, not, ◌&&◌, ◌||◌, ◌==◌, List, [], ◌∷◌, ◌++◌, length, append_assoc, refl, sym, ap, subst, ◌∙◌, arith}
-use Rattle.std.specs.List.{All, list_any, list_all}
+use Rattle.std.proofs.Common.{ℕ, zero, suc, ◌≡◌, ◌<◌, ◌≤◌, ◌⊎◌, inl, inr, Bool, true, false, ◌&&◌, ◌||◌, ◌==◌, List, [], ◌∷◌, ◌++◌, append_assoc, refl, sym, subst, ◌∙◌, arith}
+use Rattle.std.specs.List.{All, list_any}
 use Rattle.std.proofs.lemmas.Bool.{cases_lt, or_right}
 use Rattle.std.proofs.lemmas.Bool.Decides.{nat_tests}
 use Rattle.std.proofs.lemmas.List.Elements.{All-nil, All-cons, All-head, All-tail}
 use Rattle.param_space.specs.declared.lists.Condition.{Condition}
 use Rattle.param_space.specs.Ancestors.{is_ancestor_within}
-use Rattle.param_space.specs.Counting.{IsWithin, count, count-le, count-within, count-same, count-less, count-bounded}
+use Rattle.param_space.specs.Counting.{IsWithin, count, count-le, count-same, count-less}
 
 -- the parameters that a condition names are below n
 pub record IsNamed (n : ℕ) (c : Condition) : Type 0 where
@@ -50,6 +50,7 @@ parent_named n (c ∷ cs) named p a s h = by (c.parent == a) refl ((c.child == p
   where
     is_it : (c.parent == a) ≡ true → a < n
     is_it e = let here = (All-head (IsNamed n) c cs named).parent in grind (arith, nat_tests, here, e)
+
     by : (x : Bool) → (c.parent == a) ≡ x → (y : Bool) → (step cs p s a ≡ true → a < n) → ((x && y) || step cs p s a) ≡ true → a < n
     by true e y rest k = is_it e
     by false e y rest k = rest k
@@ -78,6 +79,7 @@ grows_or_stable n cs named p (suc g) = by (grows_or_stable n cs named p g)
     grown before (inl more) = inr (omega (arith, before, more))
     grown before (inr same) = inl (stays_stable cs p g (λ a h.
         count-same (is_ancestor_within g cs p) (is_ancestor_within (suc g) cs p) n a (generations_within cs p g) same (ancestor_named n cs named (suc g) p a h) h))
+
     by : IsStable cs p g ⊎ (g ≤ count (is_ancestor_within g cs p) n) → IsStable cs p (suc g) ⊎ (suc g ≤ count (is_ancestor_within (suc g) cs p) n)
     by (inl stable) = inl (stays_stable cs p g stable)
     by (inr before) = grown before (cases_lt (count (is_ancestor_within g cs p) n) (count (is_ancestor_within (suc g) cs p) n))
@@ -88,6 +90,7 @@ stable n cs named p = by (grows_or_stable n cs named p n)
   where
     all : n ≤ count (is_ancestor_within n cs p) n → (a : ℕ) → a < n → is_ancestor_within n cs p a ≡ true
     all h a lt = count-same (is_ancestor_within n cs p) (λ _. true) n a (λ _ _. refl) (omega (arith, h, count-le (λ _. true) n)) lt refl
+
     by : IsStable cs p n ⊎ (n ≤ count (is_ancestor_within n cs p) n) → IsStable cs p n
     by (inl found) = found
     by (inr h) = λ a k. all h a (ancestor_named n cs named (suc n) p a k)
@@ -115,12 +118,13 @@ parents_ancestors cs p q zero parent a h = absurd (cc)
 parents_ancestors cs p q (suc g) parent a h =
     any_weaker (λ c. (c.parent == a) && ((c.child == q) || is_ancestor_within g cs q c.child)) (λ c. (c.parent == a) && ((c.child == p) || is_ancestor_within (suc g) cs p c.child)) cs
     (λ c. further (c.parent == a) (c.child == q) (is_ancestor_within g cs q c.child) (c.child == p) (is_ancestor_within (suc g) cs p c.child)
-        (λ e. at_parent c e) (λ e. parents_ancestors cs p q g parent c.child e)) h
+    (λ e. at_parent c e) (λ e. parents_ancestors cs p q g parent c.child e)) h
   where
     at_parent : (c : Condition) → (c.child == q) ≡ true → is_ancestor_within (suc g) cs p c.child ≡ true
     at_parent c e =
         let same : q ≡ c.child = grind (arith, nat_tests, e) in
         subst (λ k. is_ancestor_within (suc g) cs p k ≡ true) same (parent_is_ancestor cs p q g parent)
+
     further : (x y z v w : Bool) → (y ≡ true → w ≡ true) → (z ≡ true → w ≡ true) → (x && (y || z)) ≡ true → (x && (v || w)) ≡ true
     further true true z v w k l e = or_right v w (k refl)
     further true false z v w k l e = or_right v w (l e)
@@ -134,9 +138,11 @@ any_either f g G (x ∷ xs) h some = by (f x) (h x) (any_either f g G xs h) some
     later : (list_any g xs ≡ true) ⊎ G → (g x || list_any g xs ≡ true) ⊎ G
     later (inl e) = inl (or_right (g x) (list_any g xs) e)
     later (inr e) = inr e
+
     here : (g x ≡ true) ⊎ G → (g x || list_any g xs ≡ true) ⊎ G
     here (inl e) = inl (rw e refl)
     here (inr e) = inr e
+
     by : (b : Bool) → (b ≡ true → (g x ≡ true) ⊎ G) → (list_any f xs ≡ true → (list_any g xs ≡ true) ⊎ G) → b || list_any f xs ≡ true → (g x || list_any g xs ≡ true) ⊎ G
     by true first rest some = here (first refl)
     by false first rest some = later (rest some)
@@ -147,12 +153,13 @@ unfolding is_ancestor_within
 has_condition cs q zero a h = absurd (cc)
 has_condition cs q (suc g) a h =
     either (any_either (λ c. (c.parent == a) && ((c.child == q) || is_ancestor_within g cs q c.child)) (λ c. c.child == q) (list_any (λ c. c.child == q) cs ≡ true) cs
-        (λ c e. cases (c.parent == a) (c.child == q) (is_ancestor_within g cs q c.child) (has_condition cs q g c.child) e) h)
+    (λ c e. cases (c.parent == a) (c.child == q) (is_ancestor_within g cs q c.child) (has_condition cs q g c.child) e) h)
   where
     cases : (x y z : Bool) → (z ≡ true → list_any (λ c. c.child == q) cs ≡ true) → (x && (y || z)) ≡ true → (y ≡ true) ⊎ (list_any (λ c. c.child == q) cs ≡ true)
     cases true true z k e = inl refl
     cases true false z k e = inr (k e)
     cases false y z k e = absurd (cc)
+
     either : (list_any (λ c. c.child == q) cs ≡ true) ⊎ (list_any (λ c. c.child == q) cs ≡ true) → list_any (λ c. c.child == q) cs ≡ true
     either (inl e) = e
     either (inr e) = e
@@ -170,6 +177,7 @@ no_own_child n all (c ∷ cs) q acyclic some =
     here e =
         let same : c.child ≡ q = grind (arith, nat_tests, e) in
         subst (λ k. is_ancestor_within n all k k ≡ false) same (All-head (λ d. is_ancestor_within n all d.child d.child ≡ false) c cs acyclic)
+
     by : (x : Bool) → (c.child == q) ≡ x → (list_any (λ d. d.child == q) cs ≡ true → is_ancestor_within n all q q ≡ false) → x || list_any (λ d. d.child == q) cs ≡ true → is_ancestor_within n all q q ≡ false
     by true e later some = here e
     by false e later some = later some

@@ -1,12 +1,8 @@
 -- Which configurations belong to a space.
-use Rattle.std.proofs.Common.{◌≡◌, ◌<◌, ◌≤◌, ◌+◌, ◌++◌, ℕ, zero, suc, Bool, true, false, not, ◌&&◌, nat_lt, nat_le, bytes_eq, List, [], ◌∷◌, Option, Some, None, length, get_or, refl, sym, ap, subst, ◌∙◌, arith}
-use Rattle.std.specs.List.{list_any, list_all, slice_set}
-use Rattle.plain_text.specs.Words.{is_word}
+use Rattle.std.proofs.Common.{◌≡◌, ◌<◌, ◌≤◌, ◌+◌, ◌++◌, ℕ, zero, suc, List, [], ◌∷◌, None, length, get_or, refl, sym, ap, subst, ◌∙◌, arith}
+use Rattle.std.specs.List.{slice_set}
 use Rattle.std.proofs.lemmas.Bool.Decides.{nat_tests}
 use Rattle.param_space.specs.declared.lists.Param.{Param}
-use Rattle.param_space.specs.declared.lists.SpaceWhat.{SpaceWhat}
-use Rattle.param_space.specs.declared.lists.SpaceWhat.TheVariants.{TooMany, BadWord, DoubleName, NoValues, DoubleValue, BadDefault}
-use Rattle.param_space.specs.declared.lists.SpaceFault.{SpaceFault}
 use Rattle.param_space.specs.declared.lists.Part.TheVariants as part
 use Rattle.param_space.specs.Space.{defaults, Belongs}
 use Rattle.param_space.specs.Faults.{param_rules, param_fault, later_params_fault, params_fault}

@@ -77,6 +77,7 @@ count-bounded f (suc n) m h = by (cases_lt n m) (count-bounded f n m h)
     none : (b : Bool) → (b ≡ true → n < m) → m ≤ n → one b ≡ 0
     none true k le = absurd (omega (arith, k refl, le))
     none false k le = refl
+
     by : (n < m) ⊎ (m ≤ n) → count f n ≤ m → count f n + one (f n) ≤ m
     by (inl less) earlier = omega (arith, count-le f n, one_small (f n), less)
     by (inr le) earlier = omega (arith, earlier, none (f n) (h n) le)

@@ -1,6 +1,6 @@
 -- What holds of each space: its conditions run in no circle, settling makes canonical configurations, and the defaults are allowed.
-use Rattle.std.proofs.Common.{ℕ, ◌+◌, ◌≡◌, ◌<◌, ◌≤◌, Bool, true, false, not, ◌&&◌, nat_lt, List, [], ◌∷◌, Option, Some, None, length, refl, ap, arith}
-use Rattle.std.specs.List.{All, list_any, list_all}
+use Rattle.std.proofs.Common.{ℕ, ◌≡◌, ◌<◌, ◌≤◌, Bool, true, false, not, ◌&&◌, nat_lt, List, [], ◌∷◌, None, length, refl, ap, arith}
+use Rattle.std.specs.List.{All, list_all}
 use Rattle.std.proofs.lemmas.Bool.Decides.{nat_tests}
 use Rattle.std.proofs.lemmas.List.Elements.{All-nil, All-cons, All-weaker}
 use Rattle.std.proofs.lemmas.List.Folds.{list_any_none}
@@ -9,9 +9,8 @@ use Rattle.param_space.specs.declared.lists.Forbidden.{Forbidden}
 use Rattle.param_space.specs.declared.lists.Pick.{Pick}
 use Rattle.param_space.specs.declared.lists.Param.{Param}
 use Rattle.param_space.specs.declared.lists.Part.TheVariants as part
-use Rattle.param_space.specs.declared.lists.SpaceWhat.TheVariants.{Cycle, DefaultForbidden}
 use Rattle.param_space.specs.Space.{Lists, Belongs, defaults}
-use Rattle.param_space.specs.Ancestors.{is_ancestor_within, is_ancestor}
+use Rattle.param_space.specs.Ancestors.{is_ancestor}
 use Rattle.param_space.specs.Acyclic.{IsNamed, IsAcyclic, rank, rank_rises, rank_below}
 use Rattle.param_space.specs.Configurations.{is_active, settled, is_forbidden_by, is_allowed, IsConfig}
 use Rattle.param_space.specs.Marks.{ArePicksNamed}

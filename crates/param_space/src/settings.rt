@@ -1,17 +1,21 @@
 //! The settings of a configuration as text.
-ghost use Rattle.std.specs.Prelude.{◌≡◌, ◌++◌, ◌≤◌, false, length, slice_index_or, IfOk, OnOk, codes};
+ghost use Rattle.std.specs.Prelude.{◌≡◌, ◌≤◌, false, length, slice_index_or, IfOk, OnOk};
 ghost use Rattle.param_space.specs.Space.{Belongs};
-ghost use Rattle.param_space.specs.Settings.{named_values, at_places, setting_text, settings_text};
+ghost use Rattle.param_space.specs.Settings.{named_values, at_places, with_setting, settings_text};
 
 use crate::lists::Param;
 use crate::marks::Marks;
 use objective::Memory;
 use std::alloc::Global;
 
-/// Appends `name=value`, or a part of it where there is no memory left.
+/// Appends `name=value`, after a space where there is a text already, or a part of this
+/// where there is no memory left.
 fn push_setting(out: &mut Vec<u8>, name: &str, value: &str) -> Result<(), Memory>
-    ensures { OnOk result (out.new.items ≡ out.old.items ++ setting_text (name.now, value.now)) }
+    ensures { OnOk result (out.new.items ≡ with_setting out.old.items (name.now, value.now)) }
 {
+    if !out.is_empty() {
+        out.push(b' ')?;
+    }
     out.extend_from_slice(name.as_bytes())?;
     out.push(b'=')?;
     out.extend_from_slice(value.as_bytes())?;
@@ -33,9 +37,6 @@ pub fn made_settings(
     let mut out = Vec::new(alloc);
     for (i, param) in params.iter().enumerate() {
         if active[i] {
-            if !out.is_empty() {
-                out.push(b' ')?;
-            }
             let value = &param.values.as_slice()[usize::from(values[i])];
             push_setting(&mut out, param.name.as_str(), value.as_str())?;
         }

@@ -1,5 +1,5 @@
 //! Spaces.
-ghost use Rattle.std.specs.Prelude.{ℕ, ◌≡◌, ◌<◌, ◌++◌, false, IsTrue, slice_index_or, OnOk, OnErr, IfOk, IfErr, None, length};
+ghost use Rattle.std.specs.Prelude.{ℕ, ◌≡◌, ◌<◌, ◌≤◌, ◌++◌, true, false, slice_index_or, OnOk, OnErr, IfOk, IfErr, None, length};
 ghost use Rattle.param_space.specs.Space.{defaults, Belongs};
 ghost use Rattle.param_space.specs.Faults.{space_fault, IsCause, IsSpace};
 ghost use Rattle.param_space.specs.Configurations.{is_active as active, settled, is_canonical as canonical, is_allowed as allowed, IsConfig};
@@ -54,7 +54,12 @@ impl Space {
         ensures sound { OnOk result (space_fault (record { params = params.items; conditions = conditions.items; forbidden = forbidden.items }) ≡ None) }
         ensures fault { IfErr result (λ e. IsCause e (space_fault (record { params = params.items; conditions = conditions.items; forbidden = forbidden.items }))) }
     {
-        let order = checked_order(alloc, params.as_slice(), conditions.as_slice(), forbidden.as_slice())?;
+        let order = checked_order(
+            alloc,
+            params.as_slice(),
+            conditions.as_slice(),
+            forbidden.as_slice(),
+        )?;
         Ok(Space {
             params: Items::new(params),
             conditions: Items::new(conditions),
@@ -92,6 +97,9 @@ impl Space {
         requires { Belongs self.now.params config.now }
         ensures size { length result ≡ 256 }
         ensures value { (p : ℕ) → p < 256 → slice_index_or result p false ≡ active self.now config.now p }
+        ensures space { IsSpace self.now }
+        ensures long { length config.now ≡ length self.now.params }
+        ensures few { length self.now.params ≤ 256 }
     {
         let conditions = self.conditions.as_slice();
         activity(conditions, self.order.as_slice(), config.values())
@@ -112,7 +120,7 @@ impl Space {
         requires { Belongs self.now.params config.old }
         ensures value { config.new ≡ settled self.now config.old }
         ensures belongs { Belongs self.now.params config.new }
-        ensures sound { IsTrue (allowed self.now config.new) → IsConfig self.now config.new }
+        ensures sound { allowed self.now config.new ≡ true → IsConfig self.now config.new }
     {
         let active = self.marks(config);
         for (i, param) in self.params.as_slice().iter().enumerate() {

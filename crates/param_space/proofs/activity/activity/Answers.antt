@@ -1,4 +1,4 @@
-use Rattle.std.proofs.Common.{ℕ, suc, ◌≡◌, ◌<◌, ◌≤◌, ◌∙◌, ◌&&◌, ◌==◌, arith, true, false, refl, sym, ap, subst, length, slice_set, take_all}
+use Rattle.std.proofs.Common.{suc, ◌≡◌, ◌<◌, ◌≤◌, ◌∙◌, arith, true, false, refl, sym, ap, subst, length, slice_set, take_all}
 use Rattle.std.specs.List.{list_all, slice_index_or}
 use Rattle.std.proofs.lemmas.Grind.{common_steps}
 use Rattle.std.proofs.lemmas.List.{get_or_read, get_or-replicate, length-map}
@@ -35,16 +35,16 @@ loop-i-preserved c =
     let told = met_told n cs order config i it c.loop-i.active c.is_met.result known c.loop-i-test.true turn c.loop-i.invariant.value parent c.is_met.ensures in
     elim c.if-not-is_met.branch [
       | then-not-is_met w ↦ record {
-          size = grind (arith, common_steps);
-          value = λ p lt. ap (λ marks. slice_index_or marks p false) w.active-is
-              ∙ ap (λ q. slice_index_or (slice_set c.loop-i.active q false) p false) w.from.ensures
-              ∙ unmet_said n cs order config i p it c.loop-i.active c.loop-i-test.true turn (sym told ∙ w.if-not-is_met.true) (omega (arith, child, c.loop-i.invariant.size)) (c.loop-i.invariant.value p lt);
-        }
+        size = grind (arith, common_steps);
+        value = λ p lt. ap (λ marks. slice_index_or marks p false) w.active-is
+            ∙ ap (λ q. slice_index_or (slice_set c.loop-i.active q false) p false) w.from.ensures
+            ∙ unmet_said n cs order config i p it c.loop-i.active c.loop-i-test.true turn (sym told ∙ w.if-not-is_met.true) (omega (arith, child, c.loop-i.invariant.size)) (c.loop-i.invariant.value p lt);
+      }
       | else-not-is_met w ↦ record {
-          size = grind (arith, common_steps);
-          value = λ p lt. ap (λ marks. slice_index_or marks p false) w.active-is
-              ∙ c.loop-i.invariant.value p lt ∙ sym (met_said n cs order config i p it c.loop-i-test.true turn (sym told ∙ w.if-not-is_met.false));
-        }
+        size = grind (arith, common_steps);
+        value = λ p lt. ap (λ marks. slice_index_or marks p false) w.active-is
+            ∙ c.loop-i.invariant.value p lt ∙ sym (met_said n cs order config i p it c.loop-i-test.true turn (sym told ∙ w.if-not-is_met.false));
+      }
     ]
 
 pub returns-clause-value : goal.returns-clause-value

@@ -1,4 +1,4 @@
-use Rattle.std.proofs.Common.{◌≡◌, not, List, [], ◌∷◌, drop}
+use Rattle.std.proofs.Common.{◌≡◌, not, [], ◌∷◌, drop}
 use Rattle.param_space.specs.declared.lists.Part.TheVariants as part
 use Rattle.param_space.specs.declared.lists.SpaceWhat.TheVariants.{DefaultForbidden}
 use Rattle.param_space.specs.Faults.{first_in, first_broken}

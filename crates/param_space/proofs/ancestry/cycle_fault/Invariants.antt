@@ -1,4 +1,4 @@
-use Rattle.std.proofs.Common.{◌≡◌, false, not, List, [], ◌∷◌, drop}
+use Rattle.std.proofs.Common.{◌≡◌, false, not, [], ◌∷◌, drop}
 use Rattle.std.specs.List.{slice_index_or}
 use Rattle.param_space.specs.declared.lists.Part.TheVariants as part
 use Rattle.param_space.specs.declared.lists.SpaceWhat.TheVariants.{Cycle}

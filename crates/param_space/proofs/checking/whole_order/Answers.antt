@@ -2,7 +2,7 @@ use Rattle.std.proofs.Common.{◌≡◌, ◌∙◌, Some, None, length, sym, ap}
 use Rattle.std.proofs.lemmas.Result.{on_ok_weaker}
 use Rattle.param_space.specs.Space.{Lists}
 use Rattle.param_space.specs.Belonging.{few_params}
-use Rattle.param_space.specs.Faults.{or_else, cycle_fault, default_fault, whole_fault, IsSpace}
+use Rattle.param_space.specs.Faults.{or_else, cycle_fault, default_fault, whole_fault}
 use Rattle.param_space.specs.Soundness.{faultless_named, few_conditions, faultless_acyclic}
 use Rattle.param_space.proofs.Checks.{cycle_told, is_space, cause_found, cause_kept}
 use Rattle.param_space.proofs.Marking.{named_weaker}

@@ -1,5 +1,5 @@
 use Rattle.std.proofs.Common.{◌≡◌, true, nat_lt, take}
-use Rattle.std.specs.List.{list_any, list_all}
+use Rattle.std.specs.List.{list_all}
 use Rattle.param_space.specs.Space.{value_count}
 use Rattle.param_space.proofs.relations.are_values.Given as goal
 

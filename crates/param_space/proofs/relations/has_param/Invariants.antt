@@ -1,6 +1,5 @@
 use Rattle.std.proofs.Common.{◌≡◌, ◌==◌, false, take}
-use Rattle.std.specs.List.{list_any, list_all}
-use Rattle.param_space.specs.Space.{value_count}
+use Rattle.std.specs.List.{list_any}
 use Rattle.param_space.proofs.relations.has_param.Given as goal
 
 -- none of the picks so far is of the parameter
