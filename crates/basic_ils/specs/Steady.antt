@@ -3,7 +3,7 @@ use Rattle.std.proofs.Common.{◌≡◌, ℕ, ◌≤◌, ◌<◌, ◌⊎◌, inl
 use Rattle.std.proofs.lemmas.List.Elements.{All-append, All-push}
 use Rattle.std.proofs.Math.Nat.{le_refl}
 use Rattle.param_space.specs.Space.{defaults}
-use Rattle.param_space.specs.Unconditional.{default_is_config}
+use Rattle.param_space.specs.Soundness.{default_is_config}
 use Rattle.param_space.specs.Configurations.{IsConfig}
 use Rattle.uncapped.specs.Procedure.{Settings, Question, Incumbent}
 use Rattle.ils_face.specs.Rules.{Rules, AreRules}

@@ -21,7 +21,7 @@ fn rules_of_two(alloc: Global) -> Result<Rules, Fail> {
         default: 0,
     })?;
     Ok(Rules {
-        space: Space::new(params, Vec::new(alloc), Vec::new(alloc))?,
+        space: Space::new(alloc, params, Vec::new(alloc), Vec::new(alloc))?,
         seed: 1,
         max_runs: 2,
         budget: 1,

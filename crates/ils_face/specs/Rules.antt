@@ -1,7 +1,8 @@
 -- The rules of a search as plain numbers and lists.
 use Rattle.std.specs.Prelude.{ℕ, ◌≤◌, ◌<◌, ◌^◌}
 use Rattle.objective.specs.Bounds.{Bounds, AreInRange}
-use Rattle.param_space.specs.Space.{Lists, IsSpace}
+use Rattle.param_space.specs.Space.{Lists}
+use Rattle.param_space.specs.Faults.{IsSpace}
 
 pub record Rules : Type 0 where
   pub space : Lists

@@ -2,7 +2,7 @@
 use Rattle.std.proofs.Common.{ℕ, ◌<◌, List, [], ◌∷◌, length, IfSome, All, arith}
 use Rattle.std.proofs.lemmas.List.Elements.{All-head, All-tail, All-get_or}
 use Rattle.param_space.specs.Configurations.{IsConfig}
-use Rattle.param_space.specs.Unconditional.{default_is_config}
+use Rattle.param_space.specs.Soundness.{default_is_config}
 use Rattle.neighbourhood.specs.Neighbours.{neighbours_of}
 use Rattle.neighbourhood.specs.Soundness.{neighbours_sound}
 use Rattle.seeded_order.specs.Draws.{order_of, one_of}

@@ -1,15 +1,16 @@
 -- A configuration has at most 65,536 neighbours.
-use Rattle.std.proofs.Common.{ℕ, zero, suc, ◌+◌, ◌*◌, ◌≡◌, ◌<◌, ◌≤◌, ◌==◌, not, Bool, true, false, cond, List, [], ◌∷◌, ◌++◌, length, map, ap, arith, length-append}
+use Rattle.std.proofs.Common.{ℕ, suc, ◌*◌, ◌≡◌, ◌<◌, ◌≤◌, ◌==◌, not, Bool, true, false, cond, List, [], ◌∷◌, length, arith, length-append}
 use Rattle.std.specs.Prelude.{slice_index}
 use Rattle.std.specs.List.{All, filter, flat_map, range_with_len}
 use Rattle.std.proofs.lemmas.List.{get_or-map, length-map}
-use Rattle.std.proofs.lemmas.List.Elements.{All-nil, All-head, All-tail, All-filter, All-weaker}
+use Rattle.std.proofs.lemmas.List.Elements.{All-head, All-tail, All-filter, All-weaker}
 use Rattle.std.proofs.lemmas.List.FromFn.{length-range_with_len}
 use Rattle.param_space.specs.declared.lists.Param.{Param}
-use Rattle.param_space.specs.Space.{Lists, IsSpace}
+use Rattle.param_space.specs.Space.{Lists, value_count}
+use Rattle.param_space.specs.Faults.{IsSpace}
 use Rattle.param_space.specs.Belonging.{few_values, few_params}
 use Rattle.param_space.specs.Configurations.{is_active, is_allowed}
-use Rattle.neighbourhood.specs.Neighbours.{value_count, other_values, exchanged, exchanges, active_params, neighbours_of}
+use Rattle.neighbourhood.specs.Neighbours.{other_values, exchanged, exchanges, active_params, neighbours_of}
 use Rattle.neighbourhood.specs.Soundness.{no_param, range_below}
 
 -- a filter keeps no more than there is
@@ -32,7 +33,7 @@ joined f most (x ∷ xs) h =
 few_exchanges : (lists : Lists) → IsSpace lists → (θ : List ℕ) (p : ℕ) → p < length lists.params → length (exchanges lists θ p) ≤ 256
 few_exchanges lists space θ p lt =
     let count : value_count lists.params p ≡ _ = get_or-map (λ (q : Param). length q.values) lists.params p no_param 0 lt in
-    let few = few_values lists.params p no_param space.sound lt in
+    let few = few_values lists.params p no_param space.params lt in
     let all = length-range_with_len 0 (value_count lists.params p) in
     let some = kept (λ v. not (v == slice_index θ p)) (range_with_len 0 (value_count lists.params p)) in
     let same = length-map (other_values lists.params θ p) (exchanged lists θ p) in
@@ -48,6 +49,6 @@ few_neighbours lists space θ =
     let all = joined (exchanges lists θ) 256 (active_params lists θ) each in
     let active = kept (is_active lists θ) (range_with_len 0 count) in
     let numbers = length-range_with_len 0 count in
-    let few = few_params lists.params space.sound in
+    let few = few_params lists.params space.params in
     let allowed = kept (is_allowed lists) (flat_map (exchanges lists θ) (active_params lists θ)) in
     omega (arith, all, active, numbers, few, allowed)

@@ -2,12 +2,8 @@
 use Rattle.std.specs.Prelude.{ℕ, ◌==◌, not, List, length, map, slice_index, slice_set}
 use Rattle.std.specs.List.{filter, flat_map, range_with_len}
 use Rattle.param_space.specs.declared.lists.Param.{Param}
-use Rattle.param_space.specs.Space.{Lists}
+use Rattle.param_space.specs.Space.{Lists, value_count}
 use Rattle.param_space.specs.Configurations.{is_active, settled, is_allowed}
-
--- how many values the parameter with this number has
-abbrev pub value_count : List Param → ℕ → ℕ
-value_count params p = slice_index (map (λ q. length q.values) params) p
 
 -- the numbers of a parameter's values but for the one that it has in the configuration
 abbrev pub other_values : List Param → List ℕ → ℕ → List ℕ

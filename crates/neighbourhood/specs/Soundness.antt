@@ -1,15 +1,16 @@
 -- Each neighbour is an allowed canonical configuration.
-use Rattle.std.specs.Prelude.{ℕ, zero, suc, ◌+◌, ◌<◌, ◌≤◌, List, [], ◌∷◌, length, slice_index, slice_set, not, ◌==◌}
-use Rattle.std.specs.List.{All, flat_map, range_with_len}
-use Rattle.std.proofs.Common.{arith, sym, subst}
+use Rattle.std.specs.Prelude.{ℕ, zero, suc, ◌+◌, ◌<◌, ◌≤◌, List, [], ◌∷◌, ◌≡◌, Bool, true, false, cond, length, slice_index, slice_set, not, ◌==◌}
+use Rattle.std.specs.List.{All, filter, flat_map, range_with_len}
+use Rattle.std.proofs.Common.{arith, refl, subst}
 use Rattle.std.proofs.lemmas.List.{get_or-map}
 use Rattle.std.proofs.lemmas.List.Elements.{All-nil, All-cons, All-head, All-tail, All-append, All-filter, All-map, All-weaker}
 use Rattle.param_space.specs.declared.lists.Param.{Param}
-use Rattle.param_space.specs.Space.{Lists, IsSpace, Belongs}
+use Rattle.param_space.specs.Space.{Lists, Belongs, value_count}
+use Rattle.param_space.specs.Faults.{IsSpace}
 use Rattle.param_space.specs.Configurations.{is_active, is_allowed, IsConfig}
 use Rattle.param_space.specs.Belonging.{Belongs-set}
-use Rattle.param_space.specs.Unconditional.{all_settled, unconditional}
-use Rattle.neighbourhood.specs.Neighbours.{value_count, other_values, exchanged, exchanges, active_params, neighbours_of}
+use Rattle.param_space.specs.Soundness.{settled_is_config}
+use Rattle.neighbourhood.specs.Neighbours.{other_values, exchanged, exchanges, active_params, neighbours_of}
 
 -- what holds of each element of each part holds of each element of all
 All-flat_map : {X Y : Type 0} (P : Y → Type 0) (f : X → List Y) (xs : List X) → All (λ x. All P (f x)) xs → All P (flat_map f xs)
@@ -30,17 +31,29 @@ Belongs-exchange params θ p v h lt below =
     let count = get_or-map (λ (q : Param). length q.values) params p no_param 0 lt in
     Belongs-set params θ p v no_param h lt (subst (λ n. v < n) count below)
 
-exchange_is_config : (lists : Lists) → IsSpace lists → (θ : List ℕ) → Belongs lists.params θ → (p v : ℕ) → p < length lists.params → v < value_count lists.params p → IsConfig lists (exchanged lists θ p v)
-exchange_is_config lists space θ belongs p v lt below =
-    let set = Belongs-exchange lists.params θ p v belongs lt below in
-    subst (IsConfig lists) (sym (all_settled lists space (slice_set θ p v) set)) (unconditional lists space (slice_set θ p v) set)
+-- an allowed one is a configuration of the space
+abbrev AllowedIsConfig : Lists → List ℕ → Type 0
+AllowedIsConfig lists θ = is_allowed lists θ ≡ true → IsConfig lists θ
 
-exchanges_are_configs : (lists : Lists) → IsSpace lists → (θ : List ℕ) → Belongs lists.params θ → (p : ℕ) → p < length lists.params → All (IsConfig lists) (exchanges lists θ p)
+exchange_is_config : (lists : Lists) → IsSpace lists → (θ : List ℕ) → Belongs lists.params θ → (p v : ℕ) → p < length lists.params → v < value_count lists.params p → AllowedIsConfig lists (exchanged lists θ p v)
+exchange_is_config lists space θ belongs p v lt below allowed =
+    settled_is_config lists space (slice_set θ p v) (Belongs-exchange lists.params θ p v belongs lt below) allowed
+
+exchanges_are_configs : (lists : Lists) → IsSpace lists → (θ : List ℕ) → Belongs lists.params θ → (p : ℕ) → p < length lists.params → All (AllowedIsConfig lists) (exchanges lists θ p)
 exchanges_are_configs lists space θ config p lt =
     let count : ℕ = value_count lists.params p in
     let below = All-filter (λ v. not (v == slice_index θ p)) (λ v. v < count) (range_with_len 0 count) (range_below count 0 count (omega arith)) in
-    All-map (IsConfig lists) (exchanged lists θ p) (other_values lists.params θ p)
-    (All-weaker (λ v. v < count) (λ v. IsConfig lists (exchanged lists θ p v)) (λ v less. exchange_is_config lists space θ config p v lt less) (other_values lists.params θ p) below)
+    All-map (AllowedIsConfig lists) (exchanged lists θ p) (other_values lists.params θ p)
+    (All-weaker (λ v. v < count) (λ v. AllowedIsConfig lists (exchanged lists θ p v)) (λ v less. exchange_is_config lists space θ config p v lt less) (other_values lists.params θ p) below)
+
+-- what holds of the elements that pass holds of all that are kept
+All-kept : {X : Type 0} (passes : X → Bool) (P : X → Type 0) (xs : List X) → All (λ x. passes x ≡ true → P x) xs → All P (filter passes xs)
+All-kept passes P [] h = All-nil P
+All-kept passes P (x ∷ xs) h = by (passes x) refl (All-kept passes P xs (All-tail (λ y. passes y ≡ true → P y) x xs h))
+  where
+    by : (b : Bool) → passes x ≡ b → All P (filter passes xs) → All P (cond b (x ∷ filter passes xs) (filter passes xs))
+    by true e later = All-cons P x (filter passes xs) (All-head (λ y. passes y ≡ true → P y) x xs h e) later
+    by false e later = later
 
 -- each neighbour is an allowed canonical configuration
 pub neighbours_sound : (lists : Lists) → IsSpace lists → (θ : List ℕ) → Belongs lists.params θ → All (IsConfig lists) (neighbours_of lists θ)
@@ -48,5 +61,5 @@ unfolding neighbours_of
 neighbours_sound lists space θ config =
     let count : ℕ = length lists.params in
     let below = All-filter (is_active lists θ) (λ p. p < count) (range_with_len 0 count) (range_below count 0 count (omega arith)) in
-    let each = All-weaker (λ p. p < count) (λ p. All (IsConfig lists) (exchanges lists θ p)) (λ p less. exchanges_are_configs lists space θ config p less) (active_params lists θ) below in
-    All-filter (is_allowed lists) (IsConfig lists) (flat_map (exchanges lists θ) (active_params lists θ)) (All-flat_map (IsConfig lists) (exchanges lists θ) (active_params lists θ) each)
+    let each = All-weaker (λ p. p < count) (λ p. All (AllowedIsConfig lists) (exchanges lists θ p)) (λ p less. exchanges_are_configs lists space θ config p less) (active_params lists θ) below in
+    All-kept (is_allowed lists) (IsConfig lists) (flat_map (exchanges lists θ) (active_params lists θ)) (All-flat_map (AllowedIsConfig lists) (exchanges lists θ) (active_params lists θ) each)

@@ -4,9 +4,10 @@
 
 ghost use Rattle.std.specs.Prelude.{◌≡◌, ◌<◌, ◌≤◌, ◌++◌, ◌∷◌, [], IfOk, OnOk, length};
 ghost use Rattle.std.specs.List.{filter};
-ghost use Rattle.param_space.specs.Space.{Belongs, IsSpace};
+ghost use Rattle.param_space.specs.Space.{Belongs, value_count as count_of_values};
+ghost use Rattle.param_space.specs.Faults.{IsSpace};
 ghost use Rattle.param_space.specs.Configurations.{is_allowed as allowed};
-ghost use Rattle.neighbourhood.specs.Neighbours.{value_count as count_of_values, exchanged, exchanges, neighbours_of};
+ghost use Rattle.neighbourhood.specs.Neighbours.{exchanged, exchanges, neighbours_of};
 
 use objective::Memory;
 use param_space::{Config, Space};

@@ -25,7 +25,7 @@ fn space_of_two(alloc: Global, x: u16, y: u16) -> Result<Space, Fail> {
     let mut params = Vec::new(alloc);
     params.push(param(alloc, "x", &["a", "b"], x)?)?;
     params.push(param(alloc, "y", &["1", "2", "3"], y)?)?;
-    Ok(Space::new(params, Vec::new(alloc), Vec::new(alloc))?)
+    Ok(Space::new(alloc, params, Vec::new(alloc), Vec::new(alloc))?)
 }
 
 /// The value numbers of the neighbours of the defaults, one configuration after another.

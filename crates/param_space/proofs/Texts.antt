@@ -8,18 +8,8 @@ use Rattle.param_space.specs.declared.lists.Param.{Param}
 use Rattle.param_space.specs.Configurations.{is_active}
 use Rattle.param_space.specs.Space.{Lists, Belongs}
 use Rattle.param_space.specs.Settings.{named_values, at_places, active_values, setting_text, settings_text, with_setting}
+use Rattle.param_space.specs.ActiveValues.{named, values_until, passing_more, until_all}
 use Rattle.param_space.specs.Belonging.{length-Belongs, read_value_in_range}
-
--- a parameter's name and the value with this number
-abbrev pub named : Param → ℕ → List ℕ × List ℕ
-named p v = (p.name, slice_index_or p.values v [])
-
-pub named_values-more : (params : List Param) (values : List ℕ) (i : ℕ) (d : Param) → i < length params → i < length values
-    → named_values (take (suc i) params) (take (suc i) values) ≡ named_values (take i params) (take i values) ++ named (get_or params i d) (get_or values i 0) ∷ []
-named_values-more [] values i d h k = absurd (omega arith)
-named_values-more (p ∷ ps) [] i d h k = absurd (omega arith)
-named_values-more (p ∷ ps) (v ∷ vs) zero d h k = refl
-named_values-more (p ∷ ps) (v ∷ vs) (suc i) d h k = ap (λ rest. named p v ∷ rest) (named_values-more ps vs i d (omega arith) (omega arith))
 
 settings_text-more : (s : List ℕ × List ℕ) (ss : List (List ℕ × List ℕ)) (t : List ℕ × List ℕ)
     → settings_text (s ∷ ss ++ t ∷ []) ≡ settings_text (s ∷ ss) ++ (codes " " ++ setting_text t)
@@ -51,50 +41,6 @@ read_setting params values i p texts text name value h lt is e read f g =
     let same_value : value ≡ get_or (get_or params i p).values (get_or values i 0) [] = g ∙ get_or_read texts (get_or values i 0) text below read [] ∙ ap (λ xs. get_or xs (get_or values i 0) []) same_texts in
     ap (λ n. setting_text (n, value)) same_name ∙ ap (λ v. setting_text ((get_or params i p).name, v)) same_value
 
--- one element more, where its place passes and where it doesn't
-at_places-more : {X : Type 0} (passes : ℕ → Bool) (place : ℕ) (xs : List X) (x : X) → at_places passes place (xs ++ x ∷ []) ≡ at_places passes place xs ++ cond (passes (place + length xs)) (x ∷ []) []
-at_places-more passes place [] x = only (passes place) (passes (place + 0)) (ap passes (let e : place ≡ place + 0 = omega arith in e))
-  where
-    only : (a b : Bool) → a ≡ b → cond a (x ∷ []) [] ≡ [] ++ cond b (x ∷ []) []
-    only true true e = refl
-    only false false e = refl
-    only true false e = absurd (cc)
-    only false true e = absurd (cc)
-at_places-more passes place (y ∷ ys) x = by (passes place) (at_places-more passes (place + 1) ys x ∙ ap (λ k. at_places passes (place + 1) ys ++ cond (passes k) (x ∷ []) []) (let e : (place + 1) + length ys ≡ place + suc (length ys) = omega arith in e))
-  where
-    by : (b : Bool) → at_places passes (place + 1) (ys ++ x ∷ []) ≡ at_places passes (place + 1) ys ++ cond (passes (place + suc (length ys))) (x ∷ []) []
-        → cond b (y ∷ at_places passes (place + 1) (ys ++ x ∷ [])) (at_places passes (place + 1) (ys ++ x ∷ [])) ≡ cond b (y ∷ at_places passes (place + 1) ys) (at_places passes (place + 1) ys) ++ cond (passes (place + suc (length ys))) (x ∷ []) []
-    by true rest = ap (λ zs. y ∷ zs) rest
-    by false rest = rest
-
-length-named_values : (params : List Param) (values : List ℕ) (i : ℕ) → i ≤ length params → i ≤ length values → length (named_values (take i params) (take i values)) ≡ i
-length-named_values params values zero h k = refl
-length-named_values [] values (suc i) h k = absurd (omega arith)
-length-named_values (p ∷ ps) [] (suc i) h k = absurd (omega arith)
-length-named_values (p ∷ ps) (v ∷ vs) (suc i) h k = let more = length-named_values ps vs i (omega arith) (omega arith) in omega (arith, more)
-
--- the settings whose marks are set, of the first i
-abbrev pub settings_until : List Bool → List Param → List ℕ → ℕ → List (List ℕ × List ℕ)
-settings_until marks params values i = at_places (λ k. slice_index_or marks k false) 0 (named_values (take i params) (take i values))
-
-until_more : (marks : List Bool) (params : List Param) (values : List ℕ) (i : ℕ) (d : Param) (b : Bool) → Belongs params values → i < length params → slice_index_or marks i false ≡ b
-    → settings_until marks params values (i + 1) ≡ settings_until marks params values i ++ cond b (named (get_or params i d) (get_or values i 0) ∷ []) []
-until_more marks params values i d b h lt mark =
-    let long = length-Belongs params values h in
-    let passes : ℕ → Bool = λ k. slice_index_or marks k false in
-    let so_far : List (List ℕ × List ℕ) = named_values (take i params) (take i values) in
-    let here = named (get_or params i d) (get_or values i 0) in
-    let place : 0 + length so_far ≡ i = omega (arith, length-named_values params values i (omega (arith, lt)) (omega (arith, lt, long))) in
-    rw add-one (ap (at_places passes 0) (named_values-more params values i d lt (omega (arith, lt, long)))
-    ∙ at_places-more passes 0 so_far here
-    ∙ ap (λ k. at_places passes 0 so_far ++ cond (passes k) (here ∷ []) []) place
-    ∙ ap (λ c. at_places passes 0 so_far ++ cond c (here ∷ []) []) mark)
-
--- a parameter whose mark isn't set adds nothing
-pub unmarked_more : (marks : List Bool) (params : List Param) (values : List ℕ) (i : ℕ) (d : Param) → Belongs params values → i < length params → slice_index_or marks i false ≡ false
-    → settings_until marks params values (i + 1) ≡ settings_until marks params values i
-unmarked_more marks params values i d h lt mark = until_more marks params values i d false h lt mark ∙ append-nil (settings_until marks params values i)
-
 -- a setting that a loop reads at a place, appended to the text so far
 pub record IsReading (marks : List Bool) (params : List Param) (values : List ℕ) (i : ℕ) (p : Param) (texts : List (List ℕ)) (text name value before : List ℕ) : Type 0 where
   pub belongs : Belongs params values
@@ -104,28 +50,24 @@ pub record IsReading (marks : List Bool) (params : List Param) (values : List �
   pub read : text ≡ get_or texts (get_or values i 0) text
   pub name-is : name ≡ p.name
   pub value-is : value ≡ text
-  pub so_far : before ≡ settings_text (settings_until marks params values i)
+  pub so_far : before ≡ settings_text (values_until (λ k. slice_index_or marks k false) params values i)
   pub marked : slice_index_or marks i false ≡ true
 
 -- what it is with the setting
 pub one_read : (marks : List Bool) (params : List Param) (values : List ℕ) (i : ℕ) (p : Param) (texts : List (List ℕ)) (text name value before after : List ℕ) → IsReading marks params values i p texts text name value before
-    → after ≡ with_setting before (name, value) → after ≡ settings_text (settings_until marks params values (i + 1))
+    → after ≡ with_setting before (name, value) → after ≡ settings_text (values_until (λ k. slice_index_or marks k false) params values (i + 1))
 one_read marks params values i p texts text name value before after r made =
     let same = read_setting params values i p texts text name value r.belongs r.within r.is r.texts-are r.read r.name-is r.value-is in
-    let more = until_more marks params values i p true r.belongs r.within r.marked in
+    let more = passing_more (λ k. slice_index_or marks k false) params values i p r.belongs r.within r.marked in
     made ∙ ap (λ t. with_setting t (name, value)) r.so_far
-    ∙ ap (λ t. cond (length (settings_text (settings_until marks params values i)) == 0) t (settings_text (settings_until marks params values i) ++ (codes " " ++ t))) same
-    ∙ with_one_more (settings_until marks params values i) (named (get_or params i p) (get_or values i 0))
+    ∙ ap (λ t. cond (length (settings_text (values_until (λ k. slice_index_or marks k false) params values i)) == 0) t (settings_text (values_until (λ k. slice_index_or marks k false) params values i) ++ (codes " " ++ t))) same
+    ∙ with_one_more (values_until (λ k. slice_index_or marks k false) params values i) (named (get_or params i p) (get_or values i 0))
     ∙ ap settings_text (sym more)
 
 -- after all parameters it is the text of all settings whose marks are set
-pub all_read : (marks : List Bool) (params : List Param) (values : List ℕ) (i : ℕ) (text : List ℕ) → Belongs params values → length params ≤ i → text ≡ settings_text (settings_until marks params values i)
+pub all_read : (marks : List Bool) (params : List Param) (values : List ℕ) (i : ℕ) (text : List ℕ) → Belongs params values → length params ≤ i → text ≡ settings_text (values_until (λ k. slice_index_or marks k false) params values i)
     → text ≡ settings_text (at_places (λ k. slice_index_or marks k false) 0 (named_values params values))
-all_read marks params values i text h end so_far =
-    let passes : ℕ → Bool = λ k. slice_index_or marks k false in
-    let short : length values ≤ i = omega (arith, length-Belongs params values h, end) in
-    so_far ∙ ap (λ ps. settings_text (at_places passes 0 (named_values ps (take i values)))) (take_all i params end)
-    ∙ ap (λ vs. settings_text (at_places passes 0 (named_values params vs))) (take_all i values short)
+all_read marks params values i text h end so_far = so_far ∙ ap settings_text (until_all (λ k. slice_index_or marks k false) params values i h end)
 
 -- tests that agree below m keep the same elements
 at_places-alike : {X : Type 0} (f g : ℕ → Bool) (m place : ℕ) (xs : List X) → place + length xs ≤ m → ((k : ℕ) → k < m → f k ≡ g k) → at_places f place xs ≡ at_places g place xs

@@ -4,9 +4,11 @@ use Rattle.param_space.specs.declared.lists.Param.{Param}
 use Rattle.param_space.specs.declared.lists.Part.TheVariants as part
 use Rattle.param_space.specs.declared.lists.SpaceWhat.TheVariants.{NoParameters, BadWord, DoubleName, NoValues, DoubleValue, BadDefault}
 use Rattle.param_space.specs.declared.lists.SpaceFault.TheVariants.{At}
-use Rattle.param_space.specs.Space.{defaults}
-use Rattle.param_space.specs.Faults.{params_fault}
-use Rattle.param_space.specs.Settings.{named_values, settings_text}
+use Rattle.param_space.specs.Space.{Lists, defaults}
+use Rattle.param_space.specs.Ancestors.{is_ancestor_within}
+use Rattle.param_space.specs.Configurations.{is_active_within, settled}
+use Rattle.param_space.specs.Faults.{params_fault, space_fault}
+use Rattle.param_space.specs.Settings.{named_values, active_values, settings_text}
 
 -- a parameter with the values a and b
 abbrev pub two_values : List ℕ → ℕ → Param
@@ -48,3 +50,32 @@ no_values = refl
 
 pub double_value : params_fault (record { name = codes "x"; values = codes "a" ∷ codes "a" ∷ []; default = 0 } ∷ []) ≡ Some (At part.Param 0 DoubleValue)
 double_value = refl
+
+-- `y {1, 2} [1]`, which depends on x being a
+abbrev pub x_then_y : Lists
+x_then_y = record {
+  params = x ∷ record { name = codes "y"; values = codes "1" ∷ codes "2" ∷ []; default = 0 } ∷ [];
+  conditions = record { child = 1; parent = 0; values = 0 ∷ [] } ∷ [];
+  forbidden = [];
+}
+
+pub x_then_y_is_sound : space_fault x_then_y ≡ None
+unfolding is_ancestor_within
+x_then_y_is_sound = refl
+
+-- both values of y settle to one configuration where x is b
+pub second_settles : settled x_then_y (1 ∷ 1 ∷ []) ≡ 1 ∷ 0 ∷ []
+unfolding is_active_within
+second_settles = refl
+
+pub first_is_settled : settled x_then_y (1 ∷ 0 ∷ []) ≡ 1 ∷ 0 ∷ []
+unfolding is_active_within
+first_is_settled = refl
+
+pub inactive_is_not_printed : settings_text (active_values x_then_y (1 ∷ 0 ∷ [])) ≡ codes "x=b"
+unfolding is_active_within
+inactive_is_not_printed = refl
+
+pub active_is_printed : settings_text (active_values x_then_y (0 ∷ 1 ∷ [])) ≡ codes "x=a y=2"
+unfolding is_active_within
+active_is_printed = refl

@@ -1,7 +1,8 @@
 -- Values drawn one after another, and attempts one after another.
 use Rattle.std.proofs.Common.{ℕ, zero, suc, ◌≡◌, ◌<◌, ◌≤◌, None, ◌+◌, ◌*◌, ◌%◌, true, false, List, [], ◌∷◌, ◌++◌, length, take, get_or, sym, ap, subst, ◌∙◌, arith, add-one}
 use Rattle.param_space.specs.declared.lists.Param.{Param}
-use Rattle.param_space.specs.Space.{Lists, IsSpace, space_fault, defaults, Belongs}
+use Rattle.param_space.specs.Space.{Lists, defaults, Belongs}
+use Rattle.param_space.specs.Faults.{params_fault, IsSpace}
 use Rattle.param_space.specs.Configurations.{settled, is_allowed}
 use Rattle.rand_pcg.specs.Lcg.{Lcg}
 use Rattle.rand_pcg.specs.Pcg.{pcg32}
@@ -11,7 +12,7 @@ use Rattle.seeded_order.specs.Values.{HasValues, All-HasValues}
 use Rattle.seeded_order.specs.Randoms.{Belongs-values_of}
 
 -- the parameter that a loop reads has one to 256 values
-pub read_has_values : (params : List Param) (i : ℕ) (p : Param) (texts : List (List ℕ)) → space_fault params ≡ None → i < length params → p ≡ get_or params i p → texts ≡ p.values → (0 < length texts) × (length texts ≤ 256)
+pub read_has_values : (params : List Param) (i : ℕ) (p : Param) (texts : List (List ℕ)) → params_fault params ≡ None → i < length params → p ≡ get_or params i p → texts ≡ p.values → (0 < length texts) × (length texts ≤ 256)
 read_has_values params i p texts sound lt is e =
     let has : HasValues p = subst HasValues (sym is) (All-HasValues params sound i p lt) in
     (subst (λ ts. 0 < length ts) (sym e) has.some, subst (λ ts. length ts ≤ 256) (sym e) has.few)
@@ -46,7 +47,7 @@ more_drawn seed stream k i word params p texts before after values later lt is e
 -- the values that were drawn belong to the space
 pub drawn_belong : (seed stream k : ℕ) (lists : Lists) (params : List Param) (config : List ℕ) → IsSpace lists → params ≡ lists.params → config ≡ values_of seed stream k params → Belongs lists.params config
 drawn_belong seed stream k lists params config space e drawn =
-    let all = All-HasValues lists.params space.sound in
+    let all = All-HasValues lists.params space.params in
     let same : config ≡ values_of seed stream k lists.params = drawn ∙ ap (values_of seed stream k) e in
     subst (Belongs lists.params) (sym same) (Belongs-values_of seed stream k lists.params all)
 

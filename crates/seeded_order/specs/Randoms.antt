@@ -1,11 +1,12 @@
 -- A configuration drawn at random is one of the space.
-use Rattle.std.proofs.Common.{ℕ, zero, suc, ◌<◌, ◌+◌, ◌*◌, ◌%◌, Bool, true, false, List, [], ◌∷◌, length, sym, subst, arith}
+use Rattle.std.proofs.Common.{ℕ, zero, suc, ◌≡◌, ◌<◌, ◌+◌, ◌*◌, ◌%◌, Bool, true, false, List, [], ◌∷◌, length, refl, arith}
 use Rattle.std.specs.List.{All}
 use Rattle.std.proofs.lemmas.List.Elements.{All-head, All-tail}
 use Rattle.param_space.specs.declared.lists.Param.{Param}
-use Rattle.param_space.specs.Space.{Lists, IsSpace, Belongs}
+use Rattle.param_space.specs.Space.{Lists, Belongs}
+use Rattle.param_space.specs.Faults.{IsSpace}
 use Rattle.param_space.specs.Configurations.{is_allowed, IsConfig}
-use Rattle.param_space.specs.Unconditional.{all_settled, unconditional, default_is_config}
+use Rattle.param_space.specs.Soundness.{settled_is_config, default_is_config}
 use Rattle.seeded_order.specs.Draws.{word_of, values_of, attempt_of, first_allowed, random_config_of}
 use Rattle.seeded_order.specs.Values.{HasValues, All-HasValues}
 
@@ -17,23 +18,24 @@ Belongs-values_of seed stream k (p ∷ later) h =
     let below : word_of seed stream k % length p.values < length p.values = omega arith in
     (below, Belongs-values_of seed stream (k + 1) later (All-tail HasValues p later h))
 
--- each attempt is a configuration of the space
-pub attempt_is_config : (lists : Lists) → IsSpace lists → (seed stream a : ℕ) → IsConfig lists (attempt_of seed stream lists a)
+-- each attempt that is allowed is a configuration of the space
+pub attempt_is_config : (lists : Lists) → IsSpace lists → (seed stream a : ℕ) → is_allowed lists (attempt_of seed stream lists a) ≡ true → IsConfig lists (attempt_of seed stream lists a)
 unfolding attempt_of
-attempt_is_config lists space seed stream a =
+attempt_is_config lists space seed stream a allowed =
     let values = values_of seed stream (a * length lists.params) lists.params in
-    let belongs = Belongs-values_of seed stream (a * length lists.params) lists.params (All-HasValues lists.params space.sound) in
-    subst (IsConfig lists) (sym (all_settled lists space values belongs)) (unconditional lists space values belongs)
+    let belongs = Belongs-values_of seed stream (a * length lists.params) lists.params (All-HasValues lists.params space.params) in
+    settled_is_config lists space values belongs allowed
 
 first_is_config : (lists : Lists) → IsSpace lists → (seed stream left a : ℕ) → IsConfig lists (first_allowed seed stream lists left a)
 unfolding first_allowed
 first_is_config lists space seed stream zero a = default_is_config lists space
 first_is_config lists space seed stream (suc left) a =
-    let Goal : Bool → Type 0 = λ b. IsConfig lists (elim b [ true ↦ attempt_of seed stream lists a | false ↦ first_allowed seed stream lists left (a + 1) ]) in
-    elim (is_allowed lists (attempt_of seed stream lists a)) as Goal [
-      | true ↦ attempt_is_config lists space seed stream a
-      | false ↦ first_is_config lists space seed stream left (a + 1)
-    ]
+    by (is_allowed lists (attempt_of seed stream lists a)) refl (first_is_config lists space seed stream left (a + 1))
+  where
+    by : (b : Bool) → is_allowed lists (attempt_of seed stream lists a) ≡ b → IsConfig lists (first_allowed seed stream lists left (a + 1))
+        → IsConfig lists (elim b [ true ↦ attempt_of seed stream lists a | false ↦ first_allowed seed stream lists left (a + 1) ])
+    by true e later = attempt_is_config lists space seed stream a e
+    by false e later = later
 
 -- a configuration drawn at random is an allowed canonical one of the space
 pub random_is_config : (lists : Lists) → IsSpace lists → (seed stream : ℕ) → IsConfig lists (random_config_of seed stream lists)

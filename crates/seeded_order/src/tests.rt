@@ -23,7 +23,7 @@ fn random_of_two(alloc: Global) -> Result<Config, Fail> {
     let mut params = Vec::new(alloc);
     params.push(param(alloc, "x", &["a", "b", "c"])?)?;
     params.push(param(alloc, "y", &["1", "2"])?)?;
-    let space = Space::new(params, Vec::new(alloc), Vec::new(alloc))?;
+    let space = Space::new(alloc, params, Vec::new(alloc), Vec::new(alloc))?;
     Ok(Draws::new(42).random_config(alloc, 54, &space)?)
 }
 

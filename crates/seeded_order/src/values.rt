@@ -1,6 +1,6 @@
 //! Configurations made of a generator's words.
 ghost use Rattle.std.specs.Prelude.{◌≡◌, ◌+◌, ℕ, None, IfOk, OnOk, length};
-ghost use Rattle.param_space.specs.Space.{space_fault};
+ghost use Rattle.param_space.specs.Faults.{params_fault};
 ghost use Rattle.seeded_order.specs.Draws.{generator_at, values_of};
 
 use objective::Memory;
@@ -16,7 +16,7 @@ pub fn drawn_config(
     generator: &mut Pcg32,
     params: &[Param],
 ) -> Result<Config, Memory>
-    requires { space_fault params.now ≡ None }
+    requires { params_fault params.now ≡ None }
     ensures value { (seed stream k : ℕ) → generator.old ≡ generator_at seed stream k → IfOk result (λ c. c ≡ values_of seed stream k params.now) }
     ensures after { (seed stream k : ℕ) → generator.old ≡ generator_at seed stream k → OnOk result (generator.new ≡ generator_at seed stream (k + length params.now)) }
 {

@@ -19,7 +19,7 @@ fn rules(alloc: Global) -> Result<Rules, Fail> {
         values: Items::new(values),
         default: 0,
     })?;
-    let space = Space::new(params, Vec::new(alloc), Vec::new(alloc))?;
+    let space = Space::new(alloc, params, Vec::new(alloc), Vec::new(alloc))?;
     let _ = space.params(); // its rules hold
     Ok(Rules {
         space,

@@ -1,7 +1,9 @@
-use Rattle.std.proofs.Common.{◌∙◌, arith, sym, ap, get_or}
+use Rattle.std.proofs.Common.{◌∙◌, false, arith, sym, ap, get_or}
+use Rattle.std.specs.List.{slice_index_or}
 use Rattle.param_space.specs.Settings.{settings_text}
 use Rattle.param_space.specs.Belonging.{length-Belongs, read_value_in_range}
-use Rattle.param_space.proofs.Texts.{unmarked_more, one_read, all_read}
+use Rattle.param_space.proofs.Texts.{one_read, all_read}
+use Rattle.param_space.specs.ActiveValues.{failing_more}
 use Rattle.param_space.proofs.settings.made_settings.Goals as goal
 use Rattle.param_space.proofs.settings.made_settings.Goals.{then-active-i+in_ok-push_setting, else-active-i}
 
@@ -31,7 +33,7 @@ loop-i-preserved c =
           }) w.in_ok-push_setting.ensures
       | else-active-i w ↦
           ap (λ v. v.items) w.out-is ∙ c.loop-i.invariant
-          ∙ ap settings_text (sym (unmarked_more c.args.active.now c.args.params.now c.args.values.now c.loop-i.i c.index-params-i.result c.requires.belongs c.loop-i-test.true w.if-active-i.false))
+          ∙ ap settings_text (sym (failing_more (λ k. slice_index_or c.args.active.now k false) c.args.params.now c.args.values.now c.loop-i.i c.index-params-i.result c.requires.belongs c.loop-i-test.true w.if-active-i.false))
     ]
 
 pub returns : goal.returns

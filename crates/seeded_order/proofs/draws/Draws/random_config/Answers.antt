@@ -36,7 +36,9 @@ returns-then-is_allowed-clause-sound c =
     let drawn = c.in_ok-config.ensures.value c.args.self.now c.args.stream (a * length c.params-params.result.now) c.loop-attempt.invariant.drawn in
     let attempt : c.settle.new.config ≡ attempt_of c.args.self.now c.args.stream c.args.space.now a =
     settled_is_attempt c.args.self.now c.args.stream a c.args.space.now c.params-params.result.now c.in_ok-config.config c.settle.new.config c.params-params.ensures.value drawn c.settle.ensures.value in
-    subst (IsConfig c.args.space.now) (sym attempt) (attempt_is_config c.args.space.now c.params-params.ensures.space c.args.self.now c.args.stream a)
+    let passed : is_allowed c.args.space.now (attempt_of c.args.self.now c.args.stream c.args.space.now a) ≡ true =
+    ap (is_allowed c.args.space.now) (sym attempt) ∙ sym c.is_allowed.ensures ∙ c.if-is_allowed.true in
+    subst (IsConfig c.args.space.now) (sym attempt) (attempt_is_config c.args.space.now c.params-params.ensures.space c.args.self.now c.args.stream a passed)
 
 pub loop-attempt-preserved : goal.loop-attempt-preserved
 loop-attempt-preserved c =
