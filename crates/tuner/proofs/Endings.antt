@@ -25,6 +25,8 @@ pub ending_refused : (call : promises.Call) (taking : promises.Taking) (result :
     → IsCause e call.contents (problem_of call.words) (IsNext call.words call.contents) call.reads_failed call.reads_failed'
     → promises.ReportsRefusal e taking result → promises.Ending call taking result
 ending_refused call taking result refusal.Unbuilt cause said = record { end = status.Unbuilt; text = _; ends = promises.refused refl refl cause; said = said }
+ending_refused call taking result (refusal.BadFile kind name line what) cause said =
+    reported call taking result (status.BadFile kind line what) _ (promises.bad kind name line what refl refl cause) said
 ending_refused call taking result (refusal.ReadFault kind name) cause said =
     reported call taking result (status.ReadFault kind) _ (promises.unread kind name refl refl cause.1 cause.0) said
 ending_refused call taking result refusal.Memory cause said = record { end = status.NoMemory; text = _; ends = promises.no_memory refl refl; said = said }

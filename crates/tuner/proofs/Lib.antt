@@ -1,4 +1,3 @@
-pub mod AllSome
 pub mod Utf8
 pub mod Settings
 pub mod Costs

@@ -3,20 +3,22 @@ use Rattle.std.proofs.Common.{ℕ, ◌≡◌, ◌≤◌, ◌⊎◌, List, map, O
 use Rattle.std.specs.Prelude.{IfSome, IsSome}
 use Rattle.outside.specs.Counts.{Rose}
 use Rattle.outside.specs.Meanings.{after_taking}
-use Rattle.param_space.specs.declared.lists.Param.{Param}
+use Rattle.param_space.specs.Space.{Lists}
 use Rattle.uncapped.specs.Procedure.{Incumbent, Finished, Aborted}
 use Rattle.uncapped.specs.Uncapped.{Run}
 use Rattle.tuner.specs.Lines.{all_lines, output_of}
-use Rattle.tuner.specs.Problem.{Problem, Reading, Reads, Refused, problem_of}
+use Rattle.tuner.specs.Problem.{Problem, Reading, Reads, Refused, Bad, problem_of}
 use Rattle.tuner.specs.Promises as promises
 use Rattle.tuner.specs.Writing.{WroteBadly, failed, nothing_taken}
+use Rattle.tuner.specs.declared.status.FileKind.{FileKind}
+use Rattle.tuner.specs.declared.status.What.{What}
 use Rattle.tuner.specs.declared.status.Status.{Status}
 use Rattle.tuner.specs.declared.status.Status.TheVariants as status
 
 -- what is printed is the output of the run
-same_output : (params : List Param) (run : Run) (entries : List Incumbent) (last : Incumbent) → promises.RanTo run entries last → all_lines params entries last ≡ output_of params run
-same_output params run entries last ran =
-    ap (λ es. all_lines params es last) ran.all ∙ ap (all_lines params (map (λ added. added.entry) run.entries)) ran.end
+same_output : (space : Lists) (run : Run) (entries : List Incumbent) (last : Incumbent) → promises.RanTo run entries last → all_lines space entries last ≡ output_of space run
+same_output space run entries last ran =
+    ap (λ es. all_lines space es last) ran.all ∙ ap (all_lines space (map (λ added. added.entry) run.entries)) ran.end
 
 -- what the runs' end says of the answer, where it was written whole
 ran_cause : (call : promises.Call) (taking : promises.Taking) (problem : Problem) (end : Status) (text : List ℕ) → promises.States call problem → 1 ≤ call.seats
@@ -28,7 +30,7 @@ ran_cause call taking problem end text stated seated (promises.finished entries 
       stated = stated;
       seated = seated;
       finished = λ told. (ran told).finished;
-      printed = λ told. taken ∙ ap (after_taking taking.before) (t ∙ same_output problem.rules.space.params _ entries last (ran told));
+      printed = λ told. taken ∙ ap (after_taking taking.before) (t ∙ same_output problem.rules.space _ entries last (ran told));
     } in
     subst P (sym e) headline
 ran_cause call taking problem end text stated seated (promises.aborted e t ended) taken =
@@ -60,6 +62,10 @@ end_cause call taking end text (promises.refused e t h) taken =
     let P : Status → Type 0 = promises.HasCause call taking in
     let unbuilt : promises.IsUnbuilt call = promises.refused h in
     subst P (sym e) unbuilt
+end_cause call taking end text (promises.bad kind name line what e t h) taken =
+    let P : Status → Type 0 = promises.HasCause call taking in
+    let bad : promises.IsBadFile call kind line what = record { name = name; first = h } in
+    subst P (sym e) bad
 end_cause call taking end text (promises.unread kind name e t next rose) taken =
     let P : Status → Type 0 = promises.HasCause call taking in
     let unread : promises.IsUnread call kind = record { name = name; next = next; rose = rose } in
@@ -113,6 +119,11 @@ unbuilt_complete call taking (promises.aborted problem' stated seated ended) con
     let aborts = subst P same (ended truth) in
     cc
 
+bad_complete : (call : promises.Call) (kind : FileKind) (line : ℕ) (what : What) → promises.IsBadFile call kind line what → (contents : List ℕ → Option (List ℕ)) (problem : Problem)
+    → call.contents ≡ Some contents → problem_of call.words contents ≡ Reads problem → ⊥
+bad_complete call kind line what h contents problem told reads =
+    let bad = same_problem call.contents contents call.words (Bad kind h.name line what) told h.first in cc
+
 written_complete : (f f' e e' : ℕ) → WroteBadly f f' e e' → ¬ Rose f f' → ¬ Rose e e' → ⊥
 written_complete f f' e e' (failed rose) stays stays' = stays rose
 written_complete f f' e e' (nothing_taken rose) stays stays' = stays' rose
@@ -126,6 +137,8 @@ complete_from : (call : promises.Call) (taking : promises.Taking) (result : Stat
     → ¬ Rose taking.faults taking.faults' → ¬ Rose taking.empties taking.empties'
     → (result ≡ status.Ok) ⊎ (result ≡ status.NoMemory)
 complete_from call taking status.Ok h contents problem told reads seated truth finished no1 no2 no3 no4 = inl refl
+complete_from call taking (status.BadFile kind line what) h contents problem told reads seated truth finished no1 no2 no3 no4 =
+    absurd (bad_complete call kind line what h contents problem told reads)
 complete_from call taking (status.ReadFault kind) h contents problem told reads seated truth finished no1 no2 no3 no4 = absurd (no1 h.rose)
 complete_from call taking status.WriteFault h contents problem told reads seated truth finished no1 no2 no3 no4 = absurd (written_complete _ _ _ _ h no3 no4)
 complete_from call taking (status.ChildFault seat) h contents problem told reads seated truth finished no1 no2 no3 no4 = absurd (no2 h.1.rose)

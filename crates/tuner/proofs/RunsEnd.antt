@@ -40,7 +40,7 @@ ran_to view run h = record { finished = h.finished; all = h.shows.entries; end =
 pub run_finished : (truth : Option (Key → Outcome)) (f f' : ℕ) (failed : Option runs.Run) (problem : Problem) (taking : Taking) (result : Status)
     (view : View) (plain : Rules → Table → Run) → IsBasic plain
     → ((outcome : Key → Outcome) → truth ≡ Some outcome → IsFinal view (plain problem.rules (table_of (Some outcome) problem)))
-    → Reported taking result status.Ok (all_lines problem.rules.space.params view.entries view.last)
+    → Reported taking result status.Ok (all_lines problem.rules.space view.entries view.last)
     → RunEnding (record { truth = truth; tables = table_of truth; faults = f; faults' = f'; failed_run = failed }) problem taking result
 run_finished truth f f' failed problem taking result view plain basic h said =
     let P : Run → Type 0 = λ run. IsFinal view run in
@@ -57,7 +57,7 @@ run_aborted truth f f' failed problem taking result plain basic h said =
 
 pub run_failed : (truth : Option (Key → Outcome)) (f f' : ℕ) (failed : Option runs.Run) (problem : Problem) (taking : Taking) (result : Status) (config : List ℕ) (place : ℕ)
     → IsFailure problem f f' failed config place
-    → Reported taking result (status.ChildFault 0) (child_fault_line problem.rules.space.params place config)
+    → Reported taking result (status.ChildFault 0) (child_fault_line problem.rules.space place config)
     → RunEnding (record { truth = truth; tables = table_of truth; faults = f; faults' = f'; failed_run = failed }) problem taking result
 run_failed truth f f' failed problem taking result config place h said =
     reported _ problem taking result (status.ChildFault 0) _ (child_failed config place refl refl h.sound h.in_range h.run h.rose) said

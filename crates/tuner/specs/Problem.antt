@@ -1,12 +1,15 @@
 -- What is tuned: the reading of words and files as a problem, and its runs.
-use Rattle.std.specs.Prelude.{ℕ, ◌*◌, ◌-◌, ◌%◌, List, [], length, map, Option, Some, None, if◌then◌else◌, codes}
+use Rattle.std.specs.Prelude.{ℕ, ◌*◌, ◌-◌, ◌%◌, List, [], length, map, Option, Some, None, Result, Ok, Err, if◌then◌else◌, codes}
 use Rattle.std.specs.List.{slice_index_or}
 use Rattle.objective.specs.Costs.{Table}
 use Rattle.objective.specs.declared.Factor.TheVariants.{One}
 use Rattle.objective.specs.declared.Outcome.{Outcome}
 use Rattle.objective.specs.declared.Outcome.TheVariants.{Unsolved}
-use Rattle.param_space.specs.declared.lists.Param.{Param}
-use Rattle.param_space.specs.Settings.{named_values}
+use Rattle.param_space.specs.Space.{Lists}
+use Rattle.param_space.specs.Settings.{active_values}
+use Rattle.param_files.specs.declared.faults.ParamFault.{ParamFault}
+use Rattle.param_files.specs.declared.faults.ParamFault.TheVariants as fault
+use Rattle.param_files.specs.Reading.{params_read}
 use Rattle.outside.specs.declared.runs.Program.{Program}
 use Rattle.outside.specs.declared.runs.Setting.{Setting}
 use Rattle.outside.specs.declared.runs.Key.{Key}
@@ -17,9 +20,11 @@ use Rattle.uncapped.specs.Totals.{total_cost}
 use Rattle.uncapped.specs.Uncapped.{Run, Basic, uncapped}
 use Rattle.ils_face.specs.Rules.{Rules}
 use Rattle.ils_face.specs.Setups as setups
-use Rattle.tuner.specs.Reading.{Scenario, is_text, options_of, scenario_of, params_of, instances_of}
+use Rattle.tuner.specs.Reading.{Scenario, is_text, options_of, scenario_of, instances_of}
 use Rattle.tuner.specs.declared.status.FileKind.{FileKind}
 use Rattle.tuner.specs.declared.status.FileKind.TheVariants as kind
+use Rattle.tuner.specs.declared.status.What.{What}
+use Rattle.tuner.specs.declared.status.What.TheVariants.{Params}
 
 pub record Problem : Type 0 where
   pub program : Program
@@ -32,6 +37,7 @@ pub record Problem : Type 0 where
 pub data Reading (A : Type 0) : Type 0 where
   Reads : A → Reading A
   Refused : Reading A  -- the words or a file are not of the accepted form
+  Bad : FileKind → List ℕ → ℕ → What → Reading A  -- a file has no reading: its name, and the line and the rule of its first fault
   Absent : FileKind → Reading A  -- a file isn't there
 
 infixl 10 ◌>>=◌
@@ -39,6 +45,7 @@ infixl 10 ◌>>=◌
 abbrev pub ◌>>=◌ : {A B : Type 0} → Reading A → (A → Reading B) → Reading B
 Reads x >>= f = f x
 Refused >>= f = Refused
+Bad kind name line what >>= f = Bad kind name line what
 Absent kind >>= f = Absent kind
 
 -- a value that is read, or a refusal
@@ -63,10 +70,20 @@ text_in kind contents name = present kind (contents name) >>= text_from
 abbrev pub file_as : {A : Type 0} → FileKind → (List ℕ → Option A) → (List ℕ → Option (List ℕ)) → List ℕ → Reading A
 file_as kind read contents name = text_in kind contents name >>= λ text. accepted (read text)
 
+-- the space of a parameter file with this name, or its first fault
+abbrev pub faultless : List ℕ → Result Lists ParamFault → Reading Lists
+faultless name (Ok lists) = Reads lists
+faultless name (Err (fault.At line what)) = Bad kind.Params name line (Params what)
+faultless name (Err fault.Memory) = Refused  -- which no text gives
+
+-- the space that a parameter file states
+abbrev pub space_in : (List ℕ → Option (List ℕ)) → List ℕ → Reading Lists
+space_in contents name = present kind.Params (contents name) >>= λ bytes. faultless name (params_read bytes)
+
 -- the rules of the search, with the seed 0 and one worker
-abbrev pub rules_from : ℕ → Scenario → List Param → Rules
-rules_from budget scenario params = record {
-  space = record { params = params; conditions = []; forbidden = [] };
+abbrev pub rules_from : ℕ → Scenario → Lists → Rules
+rules_from budget scenario space = record {
+  space = space;
   seed = 0;
   max_runs = scenario.runs;
   budget = budget;
@@ -77,11 +94,11 @@ rules_from budget scenario params = record {
   workers = 1;
 }
 
--- a budget and a scenario with its parameters and instances as a problem
-abbrev pub problem_from : ℕ → Scenario → List Param → List (List ℕ) → Problem
-problem_from budget scenario params instances = record {
+-- a budget and a scenario with its space and instances as a problem
+abbrev pub problem_from : ℕ → Scenario → Lists → List (List ℕ) → Problem
+problem_from budget scenario space instances = record {
   program = record { words = blank_parted scenario.algo; dir = codes "."; cutoff_length = 2147483647 };
-  rules = rules_from budget scenario params;
+  rules = rules_from budget scenario space;
   instances = instances;
 }
 
@@ -95,9 +112,9 @@ abbrev pub problem_of : List (List ℕ) → (List ℕ → Option (List ℕ)) →
 problem_of words contents = do
   options ← accepted (options_of words)
   scenario ← file_as kind.Scenario scenario_of contents options.file
-  params ← file_as kind.Params params_of contents scenario.paramfile
+  space ← space_in contents scenario.paramfile
   instances ← file_as kind.Instances instances_of contents scenario.instance_file
-  Reads (problem_from options.budget scenario params instances)
+  Reads (problem_from options.budget scenario space instances)
 
 -- the name of a file that is to be read, once the files before it have a reading
 abbrev pub file_name : List (List ℕ) → (List ℕ → Option (List ℕ)) → FileKind → Reading (List ℕ)
@@ -109,7 +126,7 @@ file_name words contents kind.Params = do
   Reads scenario.paramfile
 file_name words contents kind.Instances = do
   scenario ← scenario_in words contents
-  params ← file_as kind.Params params_of contents scenario.paramfile
+  space ← space_in contents scenario.paramfile
   Reads scenario.instance_file
 
 -- ---- the runs
@@ -118,9 +135,9 @@ file_name words contents kind.Instances = do
 abbrev pub setting_from : List ℕ × List ℕ → Setting
 setting_from s = record { name = s.0; value = s.1 }
 
--- the settings of a configuration
+-- the settings of a configuration: its active parameters
 abbrev pub settings_at : Problem → List ℕ → List Setting
-settings_at problem config = map setting_from (named_values problem.rules.space.params config)
+settings_at problem config = map setting_from (active_values problem.rules.space config)
 
 -- what a configuration's run at a place is of: place i has instance (i - 1) mod I and the seed i
 abbrev pub key_at : Problem → List ℕ → ℕ → Key

@@ -10,8 +10,8 @@ use Rattle.param_space.specs.Configurations.{IsConfig}
 use Rattle.uncapped.specs.Procedure.{Incumbent, Finished, Aborted}
 use Rattle.uncapped.specs.Uncapped.{Run}
 use Rattle.tuner.specs.Evaluating.{IsPlace}
-use Rattle.tuner.specs.Lines.{output_of, all_lines, unbuilt_line, no_memory_line, read_fault_line, seats_line, child_fault_line}
-use Rattle.tuner.specs.Problem.{Reads, Refused, Problem, problem_of, run_at, uncapped_run}
+use Rattle.tuner.specs.Lines.{output_of, all_lines, unbuilt_line, no_memory_line, bad_file_line, read_fault_line, seats_line, child_fault_line}
+use Rattle.tuner.specs.Problem.{Reads, Refused, Bad, Problem, problem_of, run_at, uncapped_run}
 use Rattle.tuner.specs.Refusals.{IsNext}
 use Rattle.tuner.specs.Seats.{first_count, first_run}
 use Rattle.tuner.specs.Writing.{TookPartOf, WroteBadly}
@@ -19,6 +19,7 @@ use Rattle.tuner.specs.declared.reading.refusal.Refusal.{Refusal}
 use Rattle.tuner.specs.declared.reading.refusal.Refusal.TheVariants as refusal
 use Rattle.tuner.specs.declared.seat.Seat.{Seat}
 use Rattle.tuner.specs.declared.status.FileKind.{FileKind}
+use Rattle.tuner.specs.declared.status.What.{What}
 use Rattle.tuner.specs.declared.status.Status.{Status}
 use Rattle.tuner.specs.declared.status.Status.TheVariants as status
 
@@ -73,12 +74,12 @@ pub record RanTo (run : Run) (entries : List Incumbent) (last : Incumbent) : Typ
 
 -- how the runs of a problem may end, with the whole text that is to be printed then
 pub data EndsRunning (running : Running) (problem : Problem) (end : Status) (text : List ℕ) : Type 0 where
-  finished : (entries : List Incumbent) (last : Incumbent) → end ≡ status.Ok → text ≡ all_lines problem.rules.space.params entries last
+  finished : (entries : List Incumbent) (last : Incumbent) → end ≡ status.Ok → text ≡ all_lines problem.rules.space entries last
       → (IsSome running.truth → RanTo (true_run running problem) entries last) → EndsRunning running problem end text
   aborted : end ≡ status.Unbuilt → text ≡ unbuilt_line
       → (IsSome running.truth → (true_run running problem).end ≡ Aborted) → EndsRunning running problem end text
   child_failed : (config : List ℕ) (place : ℕ) → end ≡ status.ChildFault 0
-      → text ≡ child_fault_line problem.rules.space.params place config
+      → text ≡ child_fault_line problem.rules.space place config
       → IsConfig problem.rules.space config → IsPlace problem.rules.max_runs place
       → running.failed_run ≡ Some (run_at problem config place)
       → Rose running.faults running.faults' → EndsRunning running problem end text
@@ -88,6 +89,8 @@ pub data EndsRunning (running : Running) (problem : Problem) (end : Status) (tex
 pub data Ends (call : Call) (end : Status) (text : List ℕ) : Type 0 where
   refused : end ≡ status.Unbuilt → text ≡ unbuilt_line
       → IfSome call.contents (λ contents. problem_of call.words contents ≡ Refused) → Ends call end text
+  bad : (kind : FileKind) (name : List ℕ) (line : ℕ) (what : What) → end ≡ status.BadFile kind line what → text ≡ bad_file_line name line what
+      → IfSome call.contents (λ contents. problem_of call.words contents ≡ Bad kind name line what) → Ends call end text
   unread : (kind : FileKind) (name : List ℕ) → end ≡ status.ReadFault kind → text ≡ read_fault_line name
       → IsNext call.words call.contents kind name → Rose call.reads_failed call.reads_failed' → Ends call end text
   no_seat : (problem : Problem) → end ≡ status.TooFewSeats 1 call.seats → text ≡ seats_line 1 call.seats
@@ -130,6 +133,7 @@ pub data Reported (taking : Taking) (result end : Status) (text : List ℕ) : Ty
 -- a refusal of words and files is said
 abbrev pub ReportsRefusal : Refusal → Taking → Status → Type 0
 ReportsRefusal refusal.Unbuilt taking result = Said taking status.Unbuilt result unbuilt_line
+ReportsRefusal (refusal.BadFile kind name line what) taking result = Reported taking result (status.BadFile kind line what) (bad_file_line name line what)
 ReportsRefusal (refusal.ReadFault kind name) taking result = Reported taking result (status.ReadFault kind) (read_fault_line name)
 ReportsRefusal refusal.Memory taking result = Said taking status.NoMemory result no_memory_line
 
@@ -154,12 +158,17 @@ pub record Headline (call : Call) (taking : Taking) : Type 0 where
   pub stated : States call problem
   pub seated : 1 ≤ call.seats
   pub finished : IsSome call.running.truth → (true_run call.running problem).end ≡ Finished
-  pub printed : IsSome call.running.truth → taking.after ≡ after_taking taking.before (output_of problem.rules.space.params (true_run call.running problem))
+  pub printed : IsSome call.running.truth → taking.after ≡ after_taking taking.before (output_of problem.rules.space (true_run call.running problem))
 
 -- the causes of Unbuilt: words or files that are refused, or a child that aborts
 pub data IsUnbuilt (call : Call) : Type 0 where
   refused : IfSome call.contents (λ contents. problem_of call.words contents ≡ Refused) → IsUnbuilt call
   aborted : (problem : Problem) → States call problem → 1 ≤ call.seats → (IsSome call.running.truth → (true_run call.running problem).end ≡ Aborted) → IsUnbuilt call
+
+-- the cause of BadFile: this fault is the first in the files, and its file was read
+pub record IsBadFile (call : Call) (kind : FileKind) (line : ℕ) (what : What) : Type 0 where
+  pub name : List ℕ
+  pub first : IfSome call.contents (λ contents. problem_of call.words contents ≡ Bad kind name line what)
 
 -- the cause of ReadFault: the count rose, and the files before this one have a reading
 pub record IsUnread (call : Call) (kind : FileKind) : Type 0 where
@@ -178,7 +187,7 @@ pub record IsChildFault (call : Call) (taking : Taking) : Type 0 where
   pub in_range : IsPlace problem.rules.max_runs place
   pub failed : call.running.failed_run ≡ Some (run_at problem config place)
   pub rose : Rose call.running.faults call.running.faults'
-  pub printed : taking.after ≡ after_taking taking.before (child_fault_line problem.rules.space.params place config)
+  pub printed : taking.after ≡ after_taking taking.before (child_fault_line problem.rules.space place config)
 
 -- the cause of TooFewSeats: words and files state a problem, and there is no seat
 pub record IsTooFew (call : Call) (asked given : ℕ) : Type 0 where
@@ -192,6 +201,7 @@ pub record IsTooFew (call : Call) (asked given : ℕ) : Type 0 where
 abbrev pub HasCause : Call → Taking → Status → Type 0
 HasCause call taking status.Ok = Headline call taking
 HasCause call taking status.Unbuilt = IsUnbuilt call
+HasCause call taking (status.BadFile kind line what) = IsBadFile call kind line what
 HasCause call taking (status.ReadFault kind) = IsUnread call kind
 HasCause call taking status.WriteFault = WroteBadly taking.faults taking.faults' taking.empties taking.empties'
 HasCause call taking (status.ChildFault seat) = (seat ≡ 0) × IsChildFault call taking
@@ -215,6 +225,7 @@ yields (status.ReadFault kind) = true
 yields status.WriteFault = true
 yields status.Ok = false
 yields status.Unbuilt = false
+yields (status.BadFile kind line what) = false
 yields (status.ChildFault seat) = false
 yields (status.TooFewSeats asked given) = false
 
@@ -222,6 +233,11 @@ yields (status.TooFewSeats asked given) = false
 pub record RefusesUnread (call : Call) (result : Status) : Type 0 where
   pub refuses : (contents : List ℕ → Option (List ℕ)) → call.contents ≡ Some contents
       → problem_of call.words contents ≡ Refused → (result ≡ status.Unbuilt) ⊎ IsTrue (yields result)
+
+-- a file with a fault gives BadFile, where nothing else comes in between
+pub record RefusesFaulty (call : Call) (result : Status) : Type 0 where
+  pub refuses : (contents : List ℕ → Option (List ℕ)) (kind : FileKind) (name : List ℕ) (line : ℕ) (what : What) → call.contents ≡ Some contents
+      → problem_of call.words contents ≡ Bad kind name line what → (result ≡ status.BadFile kind line what) ⊎ IsTrue (yields result)
 
 -- a problem without a seat gives TooFewSeats, where nothing else comes in between
 pub record RefusesUnseated (call : Call) (result : Status) : Type 0 where

@@ -5,9 +5,6 @@ use Rattle.std.specs.Str.{is_utf8}
 use Rattle.plain_text.specs.Words.{is_blank, is_control, is_word}
 use Rattle.plain_text.specs.Decimals.{count_of}
 use Rattle.plain_text.specs.Parts.{after_prefix, before_suffix, parted, ended_lines}
-use Rattle.param_space.specs.declared.lists.Param.{Param}
-use Rattle.param_space.specs.declared.lists.SpaceFault.{SpaceFault}
-use Rattle.param_space.specs.Space.{space_fault}
 
 infixl 10 ◌>>=◌
 -- one reading after another, which takes its value
@@ -19,11 +16,6 @@ Some x >>= f = f x
 abbrev pub only_if : {A : Type 0} → Bool → A → Option A
 only_if true x = Some x
 only_if false x = None
-
--- what each element is read as, where all have a reading
-abbrev pub all_some : {A B : Type 0} → (A → Option B) → List A → Option (List B)
-all_some f [] = Some []
-all_some f (x ∷ xs) = f x >>= λ y. all_some f xs >>= λ ys. Some (y ∷ ys)
 
 -- ---- numbers
 
@@ -161,56 +153,6 @@ scenario_of text = do
     strength = search.strength;
     restart = search.restart;
   })
-
--- ---- the parameter file
-
--- values parted by a comma and a space
-abbrev pub values_from : List (List ℕ) → Option (List (List ℕ))
-values_from [] = None
-values_from (first ∷ later) = all_some (after_prefix (codes " ")) later >>= λ others. Some (first ∷ others)
-
-unfoldable pub values_of : List ℕ → Option (List (List ℕ))
-values_of text = values_from (slice_split (λ b. b == 44) text)
-
--- at most 256 values, and the default's number among them
-abbrev pub numbered : List ℕ → List (List ℕ) → List ℕ → Option Param
-numbered name values default =
-    position (λ v. bytes_eq v default) values >>= λ number.
-    only_if (nat_le (length values) 256) (record { name = name; values = values; default = number })
-
-pub record RawParam : Type 0 where
-  pub name : List ℕ
-  pub values : List ℕ
-  pub default : List ℕ
-
--- the parts of `name {v1, v2} [default]`
-unfoldable pub raw_param_of : List ℕ → Option RawParam
-raw_param_of line = do
-  head ← parted 123 line
-  inner ← parted 125 head.1
-  name ← before_suffix (codes " ") head.0
-  bracket ← after_prefix (codes " [") inner.1
-  default ← before_suffix (codes "]") bracket
-  Some (record { name = name; values = inner.0; default = default })
-
--- a parameter line
-unfoldable pub param_of : List ℕ → Option Param
-param_of line = do
-  raw ← raw_param_of line
-  values ← values_of raw.values
-  numbered raw.name values raw.default
-
--- the parameters, where they break no rule
-abbrev pub sound : List Param → Option SpaceFault → Option (List Param)
-sound params None = Some params
-sound params (Some _) = None
-
--- parameter lines, each ended by a line feed, that make a space
-unfoldable pub params_of : List ℕ → Option (List Param)
-params_of text = do
-  lines ← ended_lines text
-  params ← all_some param_of lines
-  sound params (space_fault params)
 
 -- ---- the instance file
 

@@ -1,6 +1,5 @@
 -- What the readers' values stand for.
 use Rattle.tuner.specs.Reading as reading
-use Rattle.tuner.specs.declared.reading.params.RawParam.{RawParam}
 use Rattle.tuner.specs.declared.reading.scenario.Names.{Names}
 use Rattle.tuner.specs.declared.reading.scenario.RunNumbers.{RunNumbers}
 use Rattle.tuner.specs.declared.reading.scenario.SearchNumbers.{SearchNumbers}
@@ -30,6 +29,3 @@ scenario_seen s = record {
 
 abbrev pub options_seen : Options → reading.Options
 options_seen o = record { file = o.file.now; budget = o.budget }
-
-abbrev pub raw_param_seen : RawParam → reading.RawParam
-raw_param_seen p = record { name = p.name.now; values = p.values.now; default = p.default.now }

@@ -32,7 +32,7 @@ fn report_end<P: Search, O: Sink>(
 ) -> Status
     requires rules { P.rules_of search.now ≡ problem.now.rules }
     requires sound { IsSound problem.now.rules (P.shown problem.now.rules (P.replies_of search.now)) }
-    ensures { let view = P.shown problem.now.rules (P.replies_of search.now) in Reported (taking_by O.taken O.faults O.empties out.old out.new) result Status.Ok (all_texts problem.now.rules.space.params view.entries view.last) }
+    ensures { let view = P.shown problem.now.rules (P.replies_of search.now) in Reported (taking_by O.taken O.faults O.empties out.old out.new) result Status.Ok (all_texts problem.now.rules.space view.entries view.last) }
 {
     match all_lines(alloc, &problem.rules.space, search) {
         Ok(lines) => say_all(out, lines.as_slice(), Status::Ok),
@@ -49,7 +49,7 @@ fn report_failure<O: Sink>(
     out: &mut O,
 ) -> Status
     requires { Belongs problem.now.rules.space.params config.now }
-    ensures { Reported (taking_by O.taken O.faults O.empties out.old out.new) result (Status.ChildFault 0) (child_fault_text problem.now.rules.space.params place config.now) }
+    ensures { Reported (taking_by O.taken O.faults O.empties out.old out.new) result (Status.ChildFault 0) (child_fault_text problem.now.rules.space place config.now) }
 {
     match child_fault_line(alloc, &problem.rules.space, place, config) {
         Ok(line) => say(out, line.as_slice(), Status::ChildFault { seat: 0 }),

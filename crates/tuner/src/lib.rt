@@ -2,6 +2,7 @@
 #![tactic(auto)]
 
 mod evaluation;
+mod faults;
 mod finishing;
 mod lines;
 mod meeting;
@@ -18,6 +19,6 @@ mod writing;
 
 pub use problem::Problem;
 pub use seat::Seat;
-pub use status::{FileKind, Status};
+pub use status::{FileKind, Status, What};
 pub use truth::Truth;
 pub use tuning::tune;

@@ -3,8 +3,10 @@ ghost use Rattle.std.specs.Prelude.{◌≡◌, ◌++◌, ◌∷◌, [], All, IfO
 ghost use Rattle.std.specs.List.{flat_map};
 ghost use Rattle.param_space.specs.Space.{Belongs};
 ghost use Rattle.param_space.specs.Configurations.{IsConfig};
-ghost use Rattle.tuner.specs.Lines.{entry_line as entry_text, entry_lines as entry_texts, all_lines as all_texts, read_fault_line as read_fault_text, seats_line as seats_text, child_fault_line as child_fault_text};
+ghost use Rattle.tuner.specs.Lines.{entry_line as entry_text, entry_lines as entry_texts, all_lines as all_texts, bad_file_line as bad_file_text, read_fault_line as read_fault_text, seats_line as seats_text, child_fault_line as child_fault_text};
 
+use crate::faults::what_name;
+use crate::status::What;
 use ils_face::{Entry, Search};
 use objective::{Memory, Sum};
 use param_space::{Config, Space};
@@ -21,7 +23,7 @@ fn entry_line(
     config: &Config,
 ) -> Result<Vec<u8>, Memory>
     requires { Belongs space.now.params config.now }
-    ensures { IfOk result (λ line. line.items ≡ entry_text space.now.params (record { compared = compared; runs = runs; sum = sum.0; config = config.now })) }
+    ensures { IfOk result (λ line. line.items ≡ entry_text space.now (record { compared = compared; runs = runs; sum = sum.0; config = config.now })) }
 {
     let mut line = Vec::new(alloc);
     line.extend_from_slice(format!(in alloc; "{compared} {runs} ")?.as_bytes())?;
@@ -35,7 +37,7 @@ fn entry_line(
 /// The lines of these incumbents, oldest first.
 fn entry_lines(alloc: Global, space: &Space, entries: &[Entry]) -> Result<Vec<Vec<u8>>, Memory>
     requires { All (λ e. IsConfig space.now e.config) entries.now }
-    ensures { IfOk result (λ lines. flat_map (λ line. line.items) lines.items ≡ entry_texts space.now.params entries.now) }
+    ensures { IfOk result (λ lines. flat_map (λ line. line.items) lines.items ≡ entry_texts space.now entries.now) }
 {
     let mut lines = Vec::new(alloc);
     for e in entries {
@@ -61,7 +63,7 @@ pub(crate) fn all_lines<P: Search>(
 ) -> Result<Vec<Vec<u8>>, Memory>
     requires entries { All (λ e. IsConfig space.now e.config) (P.shown (P.rules_of search.now) (P.replies_of search.now)).entries }
     requires last { IsConfig space.now (P.shown (P.rules_of search.now) (P.replies_of search.now)).last.config }
-    ensures { IfOk result (λ lines. let view = P.shown (P.rules_of search.now) (P.replies_of search.now) in flat_map (λ line. line.items) lines.items ≡ all_texts space.now.params view.entries view.last) }
+    ensures { IfOk result (λ lines. let view = P.shown (P.rules_of search.now) (P.replies_of search.now) in flat_map (λ line. line.items) lines.items ≡ all_texts space.now view.entries view.last) }
 {
     let mut lines = entry_lines(alloc, space, search.entries())?;
     let (runs, sum) = (search.incumbent_runs(), search.incumbent_sum());
@@ -84,6 +86,19 @@ pub(crate) fn read_fault_line(alloc: Global, name: &str) -> Result<String, Memor
     Ok(format!(in alloc; "readfault {name}\n")?)
 }
 
+/// The line of a file's first fault: the file's name, the fault's line and the rule's name.
+pub(crate) fn bad_file_line(
+    alloc: Global,
+    name: &str,
+    line: u32,
+    what: What,
+) -> Result<String, Memory>
+    ensures { IfOk result (λ text. string_bytes text ≡ bad_file_text name.now line what) }
+{
+    let rule = what_name(what);
+    Ok(format!(in alloc; "badfile {name} {line} {rule}\n")?)
+}
+
 /// The line of too few seats.
 pub(crate) fn seats_line(alloc: Global, asked: u32, given: u32) -> Result<String, Memory>
     ensures { IfOk result (λ line. string_bytes line ≡ seats_text asked given) }
@@ -99,7 +114,7 @@ pub(crate) fn child_fault_line(
     config: &Config,
 ) -> Result<Vec<u8>, Memory>
     requires { Belongs space.now.params config.now }
-    ensures { IfOk result (λ line. line.items ≡ child_fault_text space.now.params place config.now) }
+    ensures { IfOk result (λ line. line.items ≡ child_fault_text space.now place config.now) }
 {
     let mut line = Vec::new(alloc);
     line.extend_from_slice(format!(in alloc; "childfault {place} ")?.as_bytes())?;

@@ -1,13 +1,13 @@
 //! What is tuned, and its runs.
 ghost use Rattle.std.specs.Prelude.{◌≡◌, ◌≤◌, IfOk, ◌<◌, length, map};
 ghost use Rattle.param_space.specs.Space.{Belongs, defaults};
-ghost use Rattle.param_space.specs.Settings.{named_values};
+ghost use Rattle.param_space.specs.Settings.{active_values};
 ghost use Rattle.tuner.specs.Problem.{run_at as run_of, key_at as key_of, setting_from};
 
 use ils_face::Rules;
 use objective::Memory;
 use outside::{Key, Program, Run, Setting};
-use param_space::{Config, Param};
+use param_space::{Config, Space};
 use plain_text::{Items, Text};
 use std::alloc::Global;
 use std::marker::Model;
@@ -32,18 +32,21 @@ impl Model for Problem {
     ghost invariant = { λ p. AreInstances p.instances };
 }
 
-/// The settings of a configuration: each parameter's name with its value.
-fn settings_of(alloc: Global, params: &[Param], values: &[u16]) -> Result<Vec<Setting>, Memory>
-    requires { Belongs params.now values.now }
-    ensures { IfOk result (λ v. v.items ≡ map setting_from (named_values params.now values.now)) }
+/// The settings of a configuration: each active parameter's name with its value.
+fn settings_of(alloc: Global, space: &Space, config: &Config) -> Result<Vec<Setting>, Memory>
+    requires { Belongs space.now.params config.now }
+    ensures { IfOk result (λ v. v.items ≡ map setting_from (active_values space.now config.now)) }
 {
+    let values = config.values();
     let mut settings = Vec::new(alloc);
-    for (i, param) in params.iter().enumerate() {
-        let value = &param.values.as_slice()[values[i] as usize];
-        settings.push(Setting {
-            name: param.name.copy()?,
-            value: value.copy()?,
-        })?;
+    for (i, param) in space.params().iter().enumerate() {
+        if space.is_active(config, i as u16) {
+            let value = &param.values.as_slice()[usize::from(values[i])];
+            settings.push(Setting {
+                name: param.name.copy()?,
+                value: value.copy()?,
+            })?;
+        }
     }
     Ok(settings)
 }
@@ -58,7 +61,7 @@ impl Problem {
     {
         let instances = self.instances.as_slice();
         let turn = (place - 1) as usize % instances.len();
-        let settings = settings_of(alloc, self.rules.space.params(), config.values())?;
+        let settings = settings_of(alloc, &self.rules.space, config)?;
         Ok(Key {
             instance: instances[turn].copy()?,
             specifics: Text::of(alloc, "0")?,

@@ -2,6 +2,8 @@
 ghost use Rattle.std.specs.Prelude.{◌≡◌};
 ghost use Rattle.tuner.specs.Statuses.{code_of};
 
+use param_files::ParamWhat;
+
 /// Which of the files a fault is in.
 #[derive(Clone, Copy, Debug, PartialEq, Eq)]
 pub enum FileKind {
@@ -13,11 +15,27 @@ pub enum FileKind {
     Instances,
 }
 
+/// Which rule of a file is broken.
+#[derive(Clone, Copy, Debug, PartialEq, Eq)]
+pub enum What {
+    /// A rule of the parameter file.
+    Params(ParamWhat),
+}
+
 /// How a tuning ends.
 #[derive(Clone, Copy, Debug, PartialEq, Eq)]
 pub enum Status {
     /// All comparisons that the budget allows were made.
     Ok,
+    /// A file that was read has no reading.
+    BadFile {
+        /// The file.
+        kind: FileKind,
+        /// The line of its first fault, from 1; 0 for the file as a whole.
+        line: u32,
+        /// The rule that is broken there.
+        what: What,
+    },
     /// A read failed.
     ReadFault {
         /// The file.
@@ -39,7 +57,8 @@ pub enum Status {
         /// The seats that there are.
         given: u32,
     },
-    /// The words, a file or a child's answer isn't of the form that is built so far.
+    /// The words, the scenario or instance file or a child's answer isn't of the form that
+    /// is built so far.
     Unbuilt,
 }
 
@@ -50,6 +69,7 @@ impl Status {
     {
         match self {
             Status::Ok => 0,
+            Status::BadFile { .. } => 3,
             Status::ReadFault { .. } => 4,
             Status::WriteFault => 5,
             Status::ChildFault { .. } => 7,

@@ -4,12 +4,12 @@ ghost use Rattle.objective.specs.declared.Outcome.{Outcome};
 ghost use Rattle.outside.specs.Counts.{Rose};
 ghost use Rattle.uncapped.specs.Procedure.{Finished};
 ghost use Rattle.tuner.specs.Problem.{Problem as Stated, problem_of, Reads, Refused, uncapped_run};
-ghost use Rattle.tuner.specs.Promises.{taking_by, call_by, Ending, HasCause, Headline, IsComplete, RefusesUnread, RefusesUnseated, ReportsRefusal, Reported};
+ghost use Rattle.tuner.specs.Promises.{taking_by, call_by, Ending, HasCause, Headline, IsComplete, RefusesFaulty, RefusesUnread, RefusesUnseated, ReportsRefusal, Reported};
 ghost use Rattle.tuner.specs.Seats.{spawner_of, first_count, first_run};
 ghost use Rattle.tuner.specs.Lines.{seats_line as seats_text};
 
 use crate::finishing::run_search;
-use crate::lines::{read_fault_line, seats_line};
+use crate::lines::{bad_file_line, read_fault_line, seats_line};
 use crate::reading::problems::read_problem;
 use crate::reading::refusal::Refusal;
 use crate::saying::say;
@@ -30,6 +30,15 @@ fn refuse<O: Sink>(alloc: Global, refusal: Refusal, out: &mut O) -> Status
 {
     match refusal {
         Refusal::Unbuilt => say(out, b"unbuilt\n", Status::Unbuilt),
+        Refusal::BadFile {
+            kind,
+            name,
+            line,
+            what,
+        } => match bad_file_line(alloc, name.as_str(), line, what) {
+            Ok(text) => say(out, text.as_bytes(), Status::BadFile { kind, line, what }),
+            Err(_) => say(out, b"nomemory\n", Status::NoMemory),
+        },
         Refusal::ReadFault { kind, name } => match read_fault_line(alloc, name.as_str()) {
             Ok(line) => say(out, line.as_bytes(), Status::ReadFault { kind }),
             Err(_) => say(out, b"nomemory\n", Status::NoMemory),
@@ -74,6 +83,7 @@ pub fn tune<R: Wait, F: Files, O: Sink, S: Spawner + Send>(
     // Each other answer but NoMemory has its cause.
     ensures cause { HasCause (call_by words.now F.contents F.faults files.old files.new S.truth ⟦<Truth<S> as World>⟧.outcome S.faults S.failed_run seats.old seats.new) (taking_by O.taken O.faults O.empties out.old out.new) result }
     ensures unbuilt { RefusesUnread (call_by words.now F.contents F.faults files.old files.new S.truth ⟦<Truth<S> as World>⟧.outcome S.faults S.failed_run seats.old seats.new) result }
+    ensures bad_file { RefusesFaulty (call_by words.now F.contents F.faults files.old files.new S.truth ⟦<Truth<S> as World>⟧.outcome S.faults S.failed_run seats.old seats.new) result }
     ensures too_few { RefusesUnseated (call_by words.now F.contents F.faults files.old files.new S.truth ⟦<Truth<S> as World>⟧.outcome S.faults S.failed_run seats.old seats.new) result }
 
     // Where everything works the answer is Ok, or NoMemory.

@@ -2,22 +2,22 @@
 ghost use Rattle.std.specs.Prelude.{◌≡◌, ◌≤◌, length, IfOk, IfErr, IfSome};
 ghost use Rattle.outside.specs.Counts.{Rose};
 ghost use Rattle.tuner.specs.InRange.{AreInRange};
-ghost use Rattle.tuner.specs.Problem.{file_as, problem_of, rules_from as stated_rules, Reads};
-ghost use Rattle.tuner.specs.Reading.{params_of, instances_of};
+ghost use Rattle.tuner.specs.Problem.{file_as, space_in, problem_of, rules_from as stated_rules, Reads};
+ghost use Rattle.tuner.specs.Reading.{instances_of};
 ghost use Rattle.tuner.specs.Refusals.{IsCause, IsFile, IsNext};
 ghost use Rattle.tuner.specs.Views.{scenario_seen};
 
 use crate::problem::Problem;
 use crate::reading::instances::read_instances;
-use crate::reading::params::read_params;
 use crate::reading::refusal::Refusal;
 use crate::reading::scenario::{Scenario, read_scenario};
-use crate::reading::texts::read_text;
+use crate::reading::texts::{read_bytes, read_text};
 use crate::reading::words::read_options;
-use crate::status::FileKind;
+use crate::status::{FileKind, What};
 use ils_face::Rules;
 use objective::{Factor, Limits, Micros};
 use outside::{Files, read_program};
+use param_files::{ParamFault, read_params};
 use param_space::Space;
 use plain_text::{Items, Text};
 use std::alloc::Global;
@@ -26,13 +26,19 @@ use std::alloc::Global;
 fn read_space<F: Files>(alloc: Global, files: &mut F, name: &str) -> Result<Space, Refusal>
     ensures same { F.contents files.new ≡ F.contents files.old }
     ensures counts { F.faults files.old ≤ F.faults files.new }
-    ensures read { IfOk result (λ s. IfSome (F.contents files.old) (λ contents. file_as FileKind.Params params_of contents name.now ≡ Reads s.params)) }
-    ensures refused { IfErr result (λ e. IsCause e (F.contents files.old) (λ contents. file_as FileKind.Params params_of contents name.now) (IsFile FileKind.Params name.now) (F.faults files.old) (F.faults files.new)) }
+    ensures read { IfOk result (λ s. IfSome (F.contents files.old) (λ contents. space_in contents name.now ≡ Reads s)) }
+    ensures refused { IfErr result (λ e. IsCause e (F.contents files.old) (λ contents. space_in contents name.now) (IsFile FileKind.Params name.now) (F.faults files.old) (F.faults files.new)) }
 {
-    let text = read_text(alloc, files, FileKind::Params, name)?;
-    match read_params(alloc, text.as_str())? {
-        Some(space) => Ok(space),
-        None => Err(Refusal::Unbuilt),
+    let bytes = read_bytes(alloc, files, FileKind::Params, name)?;
+    match read_params(alloc, bytes.as_slice()) {
+        Ok(space) => Ok(space),
+        Err(ParamFault::At { line, what }) => Err(Refusal::BadFile {
+            kind: FileKind::Params,
+            name: Text::of(alloc, name)?,
+            line,
+            what: What::Params(what),
+        }),
+        Err(ParamFault::Memory) => Err(Refusal::Memory),
     }
 }
 
@@ -55,9 +61,8 @@ fn read_names<F: Files>(alloc: Global, files: &mut F, name: &str) -> Result<Vec<
 fn rules_from(budget: u64, scenario: &Scenario<'_>, space: Space) -> Rules
     requires budget { budget ≤ 100000 }
     requires numbers { AreInRange (scenario_seen scenario.now) }
-    ensures { result ≡ stated_rules budget (scenario_seen scenario.now) space.params }
+    ensures { result ≡ stated_rules budget (scenario_seen scenario.now) space }
 {
-    let _ = space.params(); // so far there are no conditions and no forbidden clauses
     Rules {
         space,
         seed: 0,

@@ -2,7 +2,7 @@
 ghost use Rattle.std.specs.Prelude.{◌≡◌};
 ghost use Rattle.tuner.specs.declared.reading.refusal.Refusal.TheVariants.{Memory as NoMemory};
 
-use crate::status::FileKind;
+use crate::status::{FileKind, What};
 use objective::Memory;
 use plain_text::Text;
 
@@ -11,6 +11,17 @@ use plain_text::Text;
 pub(crate) enum Refusal {
     /// The words or a file aren't of the form that is built so far.
     Unbuilt,
+    /// A file has no reading.
+    BadFile {
+        /// Which file.
+        kind: FileKind,
+        /// Its name.
+        name: Text,
+        /// The line of its first fault, from 1; 0 for the file as a whole.
+        line: u32,
+        /// The rule that is broken there.
+        what: What,
+    },
     /// A file couldn't be read.
     ReadFault {
         /// Which file.

@@ -15,5 +15,5 @@ joined place settings start head line line' line'' none h e e' e'' =
 
 pub returns : goal.returns
 returns c =
-    joined (decimal c.args.place) (settings_of c.args.space.now.params c.args.config.now) _ _ _ _ _ c.new-line.ensures.items
+    joined (decimal c.args.place) (settings_of c.args.space.now c.args.config.now) _ _ _ _ _ c.new-line.ensures.items
     (c.as_bytes.ensures.value ∙ c.in_ok-format.ensures.ok) c.in_ok-extend_from_slice.ensures.items c.in_ok-push_settings.ensures.ok c.in_ok-push.ensures.items

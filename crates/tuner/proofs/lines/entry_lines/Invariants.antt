@@ -5,4 +5,4 @@ use Rattle.tuner.proofs.lines.entry_lines.Given as goal
 
 -- the lines of the entries so far
 abbrev pub invariant-loop-e : goal.invariant-loop-e
-invariant-loop-e l = flat_map (λ line. line.items) l.lines.items ≡ entry_lines l.space.params (take l.e-index l.entries)
+invariant-loop-e l = flat_map (λ line. line.items) l.lines.items ≡ entry_lines l.space (take l.e-index l.entries)
