@@ -3,4 +3,9 @@ pub mod Decimals
 pub mod Parts
 pub mod Times
 pub mod Tokens
+pub mod TokenPlaces
+pub mod TokensAlong
+pub mod TokenTexts
 pub mod Lines
+pub mod LinePlaces
+pub mod LineTexts

@@ -13,12 +13,12 @@ mod times;
 mod tokenizer;
 mod words;
 
-pub use breaks::{Line, TextLines, lines};
+pub use breaks::{Line, TextLines, lines, numbered_lines};
 pub use cuts::{after_prefix, before_suffix, parted};
 pub use decimals::{push_seconds, read_count, seconds_text};
 pub use items::Items;
 pub use parts::{ended_lines, pieces};
 pub use text::Text;
 pub use times::{TimeFault, read_micros};
-pub use tokenizer::{Token, tokens};
+pub use tokenizer::{Token, token_texts, tokens};
 pub use words::{is_blank, is_word, is_word_byte};

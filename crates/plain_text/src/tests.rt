@@ -1,5 +1,5 @@
 //! Worked times and lines.
-use crate::{TimeFault, lines, read_micros, tokens};
+use crate::{TimeFault, lines, numbered_lines, read_micros, token_texts, tokens};
 use objective::{Memory, Micros};
 
 #[test]
@@ -61,6 +61,17 @@ fn splits_a_worked_line(rt: HostRuntime) -> Result<(), Memory> {
 }
 
 #[test]
+fn reads_tokens_as_texts(rt: HostRuntime) -> Result<(), Memory> {
+    let found = token_texts(rt.alloc(), "größe{1,\tzwölf} = [€] # ü")?;
+    let wanted = ["größe", "{", "1", ",", "zwölf", "}", "=", "[", "€", "]"];
+    assert_eq!(rt; found.len(), wanted.len());
+    for (text, expected) in found.iter().zip(wanted) {
+        assert_eq!(rt; *text, expected);
+    }
+    Ok(())
+}
+
+#[test]
 fn finds_worked_lines(rt: HostRuntime) -> Result<(), Memory> {
     for (text, wanted) in [
         ("", [None, None, None]),
@@ -82,6 +93,17 @@ fn finds_worked_lines(rt: HostRuntime) -> Result<(), Memory> {
             );
         }
         assert!(rt; found.next().is_none());
+    }
+    Ok(())
+}
+
+#[test]
+fn numbers_worked_lines(rt: HostRuntime) -> Result<(), Memory> {
+    let found = numbered_lines(rt.alloc(), "größe\r\n\n€")?;
+    let wanted = [(1, "größe"), (2, ""), (3, "€")];
+    assert_eq!(rt; found.len(), wanted.len());
+    for (line, expected) in found.iter().zip(wanted) {
+        assert_eq!(rt; *line, expected);
     }
     Ok(())
 }
