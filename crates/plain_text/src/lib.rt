@@ -20,5 +20,5 @@ pub use items::Items;
 pub use parts::{ended_lines, pieces};
 pub use text::Text;
 pub use times::{TimeFault, read_micros};
-pub use tokenizer::{Token, tokens};
+pub use tokenizer::{Token, token_texts, tokens};
 pub use words::{is_blank, is_word, is_word_byte};

@@ -1,5 +1,5 @@
 //! Worked times and lines.
-use crate::{TimeFault, lines, read_micros, tokens};
+use crate::{TimeFault, lines, read_micros, token_texts, tokens};
 use objective::{Memory, Micros};
 
 #[test]
@@ -57,6 +57,17 @@ fn splits_a_worked_line(rt: HostRuntime) -> Result<(), Memory> {
         assert_eq!(rt; (token.start, token.end), place);
     }
     assert!(rt; tokens(rt.alloc(), b"")?.is_empty());
+    Ok(())
+}
+
+#[test]
+fn reads_tokens_as_texts(rt: HostRuntime) -> Result<(), Memory> {
+    let found = token_texts(rt.alloc(), "größe{1,\tzwölf} = [€] # ü")?;
+    let wanted = ["größe", "{", "1", ",", "zwölf", "}", "=", "[", "€", "]"];
+    assert_eq!(rt; found.len(), wanted.len());
+    for (text, expected) in found.iter().zip(wanted) {
+        assert_eq!(rt; *text, expected);
+    }
     Ok(())
 }
 

@@ -1,7 +1,7 @@
 //! Lines that are split into tokens.
-ghost use Rattle.std.specs.Prelude.{◌≡◌, ◌<◌, ◌≤◌, length, drop, position, IfOk};
+ghost use Rattle.std.specs.Prelude.{◌≡◌, ◌<◌, ◌≤◌, length, map, drop, position, IfOk};
 ghost use Rattle.std.specs.List.{position_or_len};
-ghost use Rattle.plain_text.specs.Tokens.{stands_alone as alone, parts_runs as parting, is_comment, content as content_of, begins as begins_at, token_end as end_at, tokens as tokens_of};
+ghost use Rattle.plain_text.specs.Tokens.{stands_alone as alone, parts_runs as parting, is_comment, content as content_of, begins as begins_at, token_end as end_at, tokens as tokens_of, token_texts as texts_of};
 
 use crate::words::is_blank;
 use objective::Memory;
@@ -31,6 +31,18 @@ pub fn tokens(alloc: Global, line: &[u8]) -> Result<Vec<Token>, Memory>
         }
     }
     Ok(found)
+}
+
+/// The tokens of a line as texts.
+#[tactic(auto, unfolding(crate::specs::Tokens::token_texts))]
+pub fn token_texts<'a>(alloc: Global, line: &'a str) -> Result<Vec<&'a str>, Memory>
+    ensures { IfOk result (λ v. map (λ x. x.now) v.items ≡ texts_of line.now) }
+{
+    let mut texts = Vec::new(alloc);
+    for token in &tokens(alloc, line.as_bytes())? {
+        texts.push(&line[token.start..token.end])?;
+    }
+    Ok(texts)
 }
 
 /// A line without its comment.
