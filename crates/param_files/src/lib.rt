@@ -7,6 +7,7 @@
 #![tactic(auto)]
 
 mod faults;
+mod forms;
 mod statements;
 
 pub use faults::{ParamFault, ParamWhat};

@@ -1,0 +1,4 @@
+pub mod Fronts
+pub mod Lists
+pub mod Picks
+pub mod Ends
