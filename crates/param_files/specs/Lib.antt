@@ -4,4 +4,5 @@ pub mod Printing
 pub mod Written
 pub mod WrittenForms
 pub mod Stating
+pub mod PlainLines
 pub mod Example
