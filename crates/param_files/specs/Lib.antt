@@ -1,4 +1,5 @@
 pub mod Grammar
 pub mod Reading
+pub mod Keeping
 pub mod Printing
 pub mod Example

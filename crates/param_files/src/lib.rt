@@ -8,6 +8,7 @@
 
 mod faults;
 mod forms;
+mod line_rules;
 mod statements;
 
 pub use faults::{ParamFault, ParamWhat};
