@@ -8,6 +8,7 @@
 
 mod faults;
 mod forms;
+mod kept;
 mod line_rules;
 mod statements;
 
