@@ -2,3 +2,4 @@ pub mod Fronts
 pub mod Lists
 pub mod Picks
 pub mod Ends
+pub mod Differ

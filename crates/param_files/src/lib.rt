@@ -8,6 +8,8 @@
 
 mod faults;
 mod forms;
+mod kept;
+mod line_rules;
 mod statements;
 
 pub use faults::{ParamFault, ParamWhat};
