@@ -6,4 +6,5 @@ pub mod Written
 pub mod WrittenForms
 pub mod Stating
 pub mod PlainLines
+pub mod Apart
 pub mod Example
