@@ -7,4 +7,6 @@ pub mod WrittenForms
 pub mod Stating
 pub mod PlainLines
 pub mod Apart
+pub mod Holding
+pub mod Sound
 pub mod Example
