@@ -9,4 +9,5 @@ pub mod PlainLines
 pub mod Apart
 pub mod Holding
 pub mod Sound
+pub mod SoundRelations
 pub mod Example
