@@ -10,4 +10,5 @@ pub mod Apart
 pub mod Holding
 pub mod Sound
 pub mod SoundRelations
+pub mod Accepting
 pub mod Example

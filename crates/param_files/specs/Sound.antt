@@ -30,7 +30,8 @@ pub record IsSoundParam (p : Param) : Type 0 where
   pub differ : texts_differ p.values ≡ true
   pub default : p.default < length p.values
 
-sound_param : (earlier : List (List ℕ)) (place : ℕ) (p : Param) → param_fault earlier place p ≡ None → IsSoundParam p
+-- such is a parameter without a fault
+pub sound_param : (earlier : List (List ℕ)) (place : ℕ) (p : Param) → param_fault earlier place p ≡ None → IsSoundParam p
 sound_param earlier place p h =
     let holds = rules_hold (param_rules earlier place p) h in
     let words = and_parts (is_word p.name) (list_all is_word p.values) holds.1.0 in
