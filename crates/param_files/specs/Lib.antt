@@ -11,4 +11,5 @@ pub mod Holding
 pub mod Sound
 pub mod SoundRelations
 pub mod Accepting
+pub mod Numbering
 pub mod Example
