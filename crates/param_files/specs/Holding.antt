@@ -1,5 +1,6 @@
 -- What holds where no rule is broken.
-use Rattle.std.specs.Prelude.{ℕ, ◌≡◌, Bool, true, false, not, ◌&&◌, nat_lt, nat_le, List, [], ◌∷◌, Option, Some, None, length, map, bytes_eq, refl}
+use Rattle.std.specs.Prelude.{ℕ, ◌+◌, ◌≡◌, Bool, true, false, not, ◌&&◌, nat_lt, nat_le, List, [], ◌∷◌, Option, Some, None, length, map, bytes_eq, All, refl}
+use Rattle.std.proofs.lemmas.List.Elements.{All-nil, All-cons}
 use Rattle.std.specs.List.{list_any, list_all}
 use Rattle.plain_text.specs.Words.{is_word}
 use Rattle.param_space.specs.declared.lists.Param.{Param}
@@ -10,7 +11,7 @@ use Rattle.param_space.specs.declared.lists.SpaceWhat.{SpaceWhat}
 use Rattle.param_space.specs.declared.lists.SpaceWhat.TheVariants.{TooMany, BadWord, DoubleName, NoValues, DoubleValue, BadDefault, UnknownName, UnknownValue}
 use Rattle.param_space.specs.declared.lists.SpaceFault.{SpaceFault}
 use Rattle.param_space.specs.Space.{value_count}
-use Rattle.param_space.specs.Faults.{first_broken, or_later, texts_differ, numbers_differ}
+use Rattle.param_space.specs.Faults.{first_broken, or_later, first_in, texts_differ, numbers_differ}
 
 -- the rules of the parameter at a place, after parameters with these names
 abbrev pub param_rules : List (List ℕ) → ℕ → Param → List (Bool × SpaceWhat)
@@ -64,3 +65,11 @@ none_broken ((false, what) ∷ rules) h = absurd (cc)
 pub none_here : (part : Part) (place : ℕ) (what : Option SpaceWhat) (later : Option SpaceFault) → or_later part place what later ≡ None → (what ≡ None) × (later ≡ None)
 none_here part place None later h = (refl, h)
 none_here part place (Some what) later h = absurd (cc)
+
+-- where no element of a list has a fault, each has what follows from that
+pub All-faultless : {X : Type 0} (part : Part) (fault : ℕ → X → Option SpaceWhat) (P : X → Type 0) (xs : List X) (place : ℕ)
+    → ((i : ℕ) (x : X) → fault i x ≡ None → P x) → first_in part fault place xs ≡ None → All P xs
+All-faultless part fault P [] place follows h = All-nil P
+All-faultless part fault P (x ∷ xs) place follows h =
+    let none = none_here part place (fault place x) (first_in part fault (place + 1) xs) h in
+    All-cons P x xs (follows place x none.0) (All-faultless part fault P xs (place + 1) follows none.1)

@@ -12,4 +12,5 @@ pub mod Sound
 pub mod SoundRelations
 pub mod Accepting
 pub mod Numbering
+pub mod ReadingBack
 pub mod Example
