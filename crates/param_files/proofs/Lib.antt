@@ -3,3 +3,5 @@ pub mod Lists
 pub mod Picks
 pub mod Ends
 pub mod Differ
+pub mod Commas
+pub mod Printed

@@ -66,16 +66,17 @@ accept_params earlier given place (p ∷ later) same size h =
     let sound = sound_param given place p none.0 in
     let default = slice_index_or p.values p.default [] in
     let next = numbered_param p.name p.values default in
-    let pushed = params_in_push earlier p in
-    (parameter_kept (params_in earlier) p.name p.values default
-    (subst (λ n. (nat_lt n 256 && nat_le (length p.values) 256) ≡ true) size holds.0)
-    (ap not (name_among p.name (params_in earlier) ∙ ap (list_any (bytes_eq p.name)) (sym same)) ∙ holds.1.1.0)
-    sound.differ
-    (list_any_at (bytes_eq default) p.values p.default [] sound.default ((bytes_eq-Decides default default).1 refl)),
-    accept_params (earlier ++ param_stated p ∷ []) (given ++ p.name ∷ []) (place + 1) later
-    (ap (λ ns. ns ++ p.name ∷ []) same ∙ sym (map_push (λ q. q.name) (params_in earlier) next) ∙ ap names (sym pushed))
-    (ap (λ n. n + 1) size ∙ sym (length_push (params_in earlier) next) ∙ ap length (sym pushed))
-    none.1)
+    let pushed = params_in_push earlier p in (
+      parameter_kept (params_in earlier) p.name p.values default
+          (subst (λ n. (nat_lt n 256 && nat_le (length p.values) 256) ≡ true) size holds.0)
+          (ap not (name_among p.name (params_in earlier) ∙ ap (list_any (bytes_eq p.name)) (sym same)) ∙ holds.1.1.0)
+          sound.differ
+          (list_any_at (bytes_eq default) p.values p.default [] sound.default ((bytes_eq-Decides default default).1 refl)),
+      accept_params (earlier ++ param_stated p ∷ []) (given ++ p.name ∷ []) (place + 1) later
+          (ap (λ ns. ns ++ p.name ∷ []) same ∙ sym (map_push (λ q. q.name) (params_in earlier) next) ∙ ap names (sym pushed))
+          (ap (λ n. n + 1) size ∙ sym (length_push (params_in earlier) next) ∙ ap length (sym pushed))
+          none.1,
+    )
 
 -- ---- conditions
 
@@ -94,11 +95,12 @@ module _ (params : List Param) (sound : All IsSoundParam params) where
   accept_conditions earlier place [] size h = tt
   accept_conditions earlier place (c ∷ later) size h =
       let none = none_here part.Condition place (condition_fault params place c) (first_in part.Condition (condition_fault params) (place + 1) later) h in
-      let s = condition_stated params c in
-      (condition_kept (length (filter is_condition earlier)) (map (value_of params c.parent) c.values)
-      (subst (λ n. nat_lt n 1024 ≡ true) size (rules_hold (condition_rules params place c) none.0).0)
-      (condition_apart params sound c (sound_condition params place c none.0)),
-      accept_conditions (earlier ++ s ∷ []) (place + 1) later (one_more is_condition earlier s place refl size) none.1)
+      let s = condition_stated params c in (
+        condition_kept (length (filter is_condition earlier)) (map (value_of params c.parent) c.values)
+            (subst (λ n. nat_lt n 1024 ≡ true) size (rules_hold (condition_rules params place c) none.0).0)
+            (condition_apart params sound c (sound_condition params place c none.0)),
+        accept_conditions (earlier ++ s ∷ []) (place + 1) later (one_more is_condition earlier s place refl size) none.1,
+      )
 
 -- ---- clauses
 
@@ -114,11 +116,12 @@ module _ (params : List Param) (apart : texts_differ (names params) ≡ true) wh
       let none = none_here part.Forbidden place (clause_fault params place f) (first_in part.Forbidden (clause_fault params) (place + 1) later) h in
       let s = clause_stated params f in
       let count : length (map (pick_stated params) f.picks) ≡ length f.picks = length-map f.picks (pick_stated params) in
-      let few = (rules_hold (clause_rules params place f) none.0).0 in
-      (clause_kept (length (filter is_clause earlier)) (map (pick_stated params) f.picks)
-      (ap (λ n. nat_lt (length (filter is_clause earlier)) 4096 && nat_le n 16) count ∙ subst (λ n. (nat_lt n 4096 && nat_le (length f.picks) 16) ≡ true) size few)
-      (clause_apart params f apart (sound_clause params place f none.0)),
-      accept_clauses (earlier ++ s ∷ []) (place + 1) later (one_more is_clause earlier s place refl size) none.1)
+      let few = (rules_hold (clause_rules params place f) none.0).0 in (
+        clause_kept (length (filter is_clause earlier)) (map (pick_stated params) f.picks)
+            (ap (λ n. nat_lt (length (filter is_clause earlier)) 4096 && nat_le n 16) count ∙ subst (λ n. (nat_lt n 4096 && nat_le (length f.picks) 16) ≡ true) size few)
+            (clause_apart params f apart (sound_clause params place f none.0)),
+        accept_clauses (earlier ++ s ∷ []) (place + 1) later (one_more is_clause earlier s place refl size) none.1,
+      )
 
 -- ---- all of them
 

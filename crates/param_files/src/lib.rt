@@ -10,6 +10,8 @@ mod faults;
 mod forms;
 mod kept;
 mod line_rules;
+mod printer;
 mod statements;
 
 pub use faults::{ParamFault, ParamWhat};
+pub use printer::print_params;
