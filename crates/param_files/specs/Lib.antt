@@ -4,6 +4,7 @@ pub mod Keeping
 pub mod Printing
 pub mod Written
 pub mod WrittenForms
+pub mod OnlyWritten
 pub mod Stating
 pub mod PlainLines
 pub mod Apart
