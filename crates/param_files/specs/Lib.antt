@@ -7,7 +7,7 @@ pub mod WrittenForms
 pub mod OnlyWritten
 pub mod Stating
 pub mod PlainLines
-pub mod Apart
+pub mod OwnPlaces
 pub mod Holding
 pub mod Sound
 pub mod SoundRelations

@@ -17,7 +17,7 @@ use Rattle.param_files.specs.declared.statements.Statement.{Statement}
 use Rattle.param_files.specs.Printing.{name_of, value_of}
 use Rattle.param_files.specs.Reading.{before, all_some, param_number, value_number, condition_numbered, pick_numbered, clause_numbered, Numbered, with_condition, with_clause, all_numbered}
 use Rattle.param_files.specs.Stating.{param_stated, condition_stated, pick_stated, clause_stated}
-use Rattle.param_files.specs.Apart.{number_of}
+use Rattle.param_files.specs.OwnPlaces.{number_of}
 use Rattle.param_files.specs.Sound.{IsSoundParam, values_at, length-values_at, values_apart}
 use Rattle.param_files.specs.SoundRelations.{IsSoundCondition, IsSoundClause}
 

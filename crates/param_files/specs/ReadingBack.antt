@@ -24,7 +24,7 @@ use Rattle.param_files.specs.Written.{written}
 use Rattle.param_files.specs.WrittenForms.{is_form, statement_of-written}
 use Rattle.param_files.specs.Stating.{param_stated, condition_stated, clause_stated, all_stated, param_tokens, condition_tokens, clause_tokens}
 use Rattle.param_files.specs.PlainLines.{param_fits, condition_fits, clause_fits}
-use Rattle.param_files.specs.Apart.{bytes_eq-sym, place_of}
+use Rattle.param_files.specs.OwnPlaces.{bytes_eq-sym, place_of}
 use Rattle.param_files.specs.Holding.{All-faultless}
 use Rattle.param_files.specs.Sound.{IsSoundParam, param_form, sound_params, names_apart}
 use Rattle.param_files.specs.SoundRelations.{IsSoundCondition, IsSoundClause, sound_condition, sound_clause, condition_form, clause_form}
