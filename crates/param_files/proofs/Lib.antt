@@ -3,3 +3,4 @@ pub mod Lists
 pub mod Picks
 pub mod Ends
 pub mod Differ
+pub mod AllSome
