@@ -4,3 +4,4 @@ pub mod Picks
 pub mod Ends
 pub mod Differ
 pub mod AllSome
+pub mod ByNumbers

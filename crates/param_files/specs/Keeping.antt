@@ -50,6 +50,10 @@ pub record AreFew (params : List Param) : Type 0 where
   pub count : length params ≤ 256
   pub values : All (λ p. length p.values ≤ 256) params
 
+-- no conditions and no clauses
+abbrev pub none_numbered : Numbered
+none_numbered = record { conditions = []; condition_lines = []; clauses = []; clause_lines = [] }
+
 -- conditions and clauses by numbers, and those of one more statement
 unfoldable pub numbered_with : List Param → Numbered → ℕ → Statement → Result Numbered ParamFault
 numbered_with params n line Nothing = Ok n

@@ -10,6 +10,7 @@ mod faults;
 mod forms;
 mod kept;
 mod line_rules;
+mod numbering;
 mod numbers;
 mod statements;
 
