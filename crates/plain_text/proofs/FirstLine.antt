@@ -1,5 +1,5 @@
 -- The first line of a text, and the others.
-use Rattle.std.proofs.Common.{ℕ, suc, ◌≡◌, ◌<◌, ◌+◌, ◌==◌, Bool, true, false, cond, List, [], ◌∷◌, Some, None, length, take, drop, position, nat_lt, refl, sym, ap, ◌∙◌, arith}
+use Rattle.std.proofs.Common.{ℕ, suc, ◌≡◌, ◌<◌, ◌+◌, ◌==◌, Bool, true, false, List, [], ◌∷◌, length, take, drop, refl, sym, ap, ◌∙◌, arith}
 use Rattle.std.proofs.lemmas.Bool.Decides.{nat_tests}
 use Rattle.std.proofs.lemmas.List.{length-take}
 use Rattle.std.proofs.lemmas.List.Splits.{slice_split_first, slice_split-cons_no, length-slice_split}
@@ -7,7 +7,6 @@ use Rattle.std.specs.List.{slice_split, onto_first, position_or_len}
 use Rattle.plain_text.specs.declared.breaks.Line.{Line}
 use Rattle.plain_text.specs.Lines.{is_break, ended_size, lines_of, IsFirstLine}
 use Rattle.plain_text.proofs.Kept.{drop_all}
-use Rattle.plain_text.proofs.Places.{no_place}
 
 -- no lines are left of an empty text
 pub none_left : (given start : ℕ) (text : List ℕ) → length text ≡ 0 → [] ≡ lines_of given start (slice_split is_break text)
@@ -26,34 +25,25 @@ unbroken (b ∷ text) e = by (is_break b) refl (λ rest. unbroken text rest)
         let f : 1 + position_or_len is_break text ≡ suc (length text) = rw (sym t) at e in
         slice_split-cons_no is_break b text (sym t) ∙ ap (λ parts. onto_first b parts) (rest (omega (arith, f)))
 
-pub open_first : (text : List ℕ) → 0 < length text → None ≡ position is_break text → IsFirstLine text (length text) (length text)
+pub open_first : (text : List ℕ) (place : ℕ) → 0 < length text → place ≡ position_or_len is_break text → place ≡ length text → IsFirstLine text place place
 unfolding lines_of
-open_first text some e given start =
-    let parts = unbroken text (sym (no_place is_break text e)) in
-    let others : drop (length text) text ≡ [] = drop_all (length text) text (omega arith) in
+open_first text place some first all given start =
+    let parts = unbroken text (sym first ∙ all) in
+    let others : drop place text ≡ [] = drop_all place text (omega (arith, all)) in
     let test : (length text == 0) ≡ false = grind (arith, nat_tests, some) in
-    rw (parts, others, test) refl
+    rw (parts, others, test, all) refl
 
-pub ended_first : (text : List ℕ) (place size : ℕ) → Some place ≡ position is_break text → size ≡ ended_size (take place text) → (place < length text) × IsFirstLine text size (place + 1)
+pub ended_first : (text : List ℕ) (place size : ℕ) → place ≡ position_or_len is_break text → place < length text → size ≡ ended_size (take place text) → IsFirstLine text size (place + 1)
 unfolding lines_of
-ended_first text place size e ends = by (nat_lt (position_or_len is_break text) (length text)) refl e
-  where
-    by : (b : Bool) → b ≡ nat_lt (position_or_len is_break text) (length text) → Some place ≡ cond b (Some (position_or_len is_break text)) None → (place < length text) × IsFirstLine text size (place + 1)
-    by false t e = absurd (cc)
-    by true t e =
-        let same : place ≡ position_or_len is_break text = cc in
-        let inside : position_or_len is_break text < length text = grind (arith, nat_tests, t) in
-        let within : place < length text = omega (arith, same, inside) in
-        let parts : slice_split is_break text ≡ take place text ∷ slice_split is_break (drop (place + 1) text) =
-        slice_split_first is_break text 0 inside ∙ ap (λ k. take k text ∷ slice_split is_break (drop (k + 1) text)) (sym same) in
-        let more : (length (slice_split is_break (drop (place + 1) text)) == 0) ≡ false = grind (arith, nat_tests, length-slice_split is_break (drop (place + 1) text)) in
-        let front : length (take place text) ≡ place = omega (arith, within, length-take place text) in (
-          within,
-          λ given start. (let after : start + length (take place text) + 1 ≡ start + (place + 1) = omega (arith, front) in
-              ap (lines_of given start) parts ∙ rw (more, after, sym ends) refl),
-        )
+ended_first text place size first inside ends given start =
+    let parts : slice_split is_break text ≡ take place text ∷ slice_split is_break (drop (place + 1) text) =
+    slice_split_first is_break text 0 (omega (arith, first, inside)) ∙ ap (λ k. take k text ∷ slice_split is_break (drop (k + 1) text)) (sym first) in
+    let more : (length (slice_split is_break (drop (place + 1) text)) == 0) ≡ false = grind (arith, nat_tests, length-slice_split is_break (drop (place + 1) text)) in
+    let front : length (take place text) ≡ place = omega (arith, inside, length-take place text) in
+    let after : start + length (take place text) + 1 ≡ start + (place + 1) = omega (arith, front) in
+    ap (lines_of given start) parts ∙ rw (more, after, sym ends) refl
 
--- the same, from what the code's test says
+-- no lines are left, from what the code's test says
 pub none_left_by : (given start : ℕ) (text : List ℕ) (seen : List Line) → true ≡ (length text == 0) → lines_of given start (slice_split is_break text) ≡ seen → (seen ≡ []) × (seen ≡ [])
 none_left_by given start text seen test e =
     let size : length text ≡ 0 = grind (arith, nat_tests, test) in

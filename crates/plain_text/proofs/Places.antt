@@ -1,21 +1,23 @@
 -- Places of bytes, and what a text is read as.
-use Rattle.std.proofs.Common.{ℕ, ◌≡◌, ◌<◌, ◌≤◌, ◌^◌, Bool, true, false, cond, not, List, length, min, position, nat_lt, Some, None, refl, sym, ap, ◌∙◌, arith}
+use Rattle.std.proofs.Common.{ℕ, ◌≡◌, ◌<◌, ◌≤◌, ◌^◌, Bool, true, false, cond, not, List, length, min, position, nat_lt, Option, Some, None, refl, sym, ap, ◌∙◌, arith}
 use Rattle.std.proofs.lemmas.Bool.Decides.{nat_tests}
 use Rattle.std.proofs.lemmas.List.Sums.{prefix_len-le-length}
 use Rattle.std.proofs.lemmas.Str.Parse.{digits_value_short}
 use Rattle.std.specs.Char.{is_ascii_digit}
 use Rattle.std.specs.List.{list_all, position_or_len}
+use Rattle.std.specs.Option.{unwrap_or}
 use Rattle.std.specs.Str.Parse.{digits_value}
 use Rattle.plain_text.specs.Decimals.{is_count, count_of}
 use Rattle.plain_text.specs.Times.{whole, fraction, shifts, are_digits, micros_of, in_range, read_parts, micros_read}
 use Rattle.plain_text.proofs.Digits.{digits_model}
 
-pub no_place : (p : ℕ → Bool) (xs : List ℕ) → None ≡ position p xs → length xs ≡ position_or_len p xs
-no_place p xs e = by (nat_lt (position_or_len p xs) (length xs)) refl e
+-- the first place, or else the length
+pub place_or_length : (p : ℕ → Bool) (xs : List ℕ) (r : Option ℕ) (n : ℕ) → r ≡ position p xs → n ≡ unwrap_or r (length xs) → n ≡ position_or_len p xs
+place_or_length p xs r n first e = e ∙ ap (λ o. unwrap_or o (length xs)) first ∙ by (nat_lt (position_or_len p xs) (length xs)) refl
   where
-    by : (b : Bool) → b ≡ nat_lt (position_or_len p xs) (length xs) → None ≡ cond b (Some (position_or_len p xs)) None → length xs ≡ position_or_len p xs
-    by true t e = absurd (cc)
-    by false t e =
+    by : (b : Bool) → b ≡ nat_lt (position_or_len p xs) (length xs) → unwrap_or (cond b (Some (position_or_len p xs)) None) (length xs) ≡ position_or_len p xs
+    by true t = refl
+    by false t =
         let le = prefix_len-le-length (λ x. not (p x)) xs in
         grind (arith, nat_tests, t, le)
 

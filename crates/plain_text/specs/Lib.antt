@@ -4,4 +4,8 @@ pub mod Parts
 pub mod Times
 pub mod Tokens
 pub mod TokenPlaces
+pub mod TokensAlong
+pub mod TokenTexts
 pub mod Lines
+pub mod LinePlaces
+pub mod LineTexts

@@ -38,10 +38,11 @@ are_digits before after = list_all is_ascii_digit before && list_all is_ascii_di
 abbrev pub is_more : ℕ → Bool
 is_more b = not (b == 48)
 
--- whether an exponent begins with a sign, and whether with a minus
+-- whether an exponent begins with a sign
 abbrev pub is_signed : List ℕ → Bool
 is_signed power = (get_or power 0 0 == 43) || (get_or power 0 0 == 45)
 
+-- whether an exponent begins with a minus
 abbrev pub is_negative : List ℕ → Bool
 is_negative power = get_or power 0 0 == 45
 

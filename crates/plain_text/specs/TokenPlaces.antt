@@ -18,7 +18,7 @@ pub record IsPlaced (text : List ℕ) (token : Token) : Type 0 where
   pub ended : token.end ≡ token_end text token.start
 
 -- a token of a line begins and ends between characters
-pub record IsCut (line : List ℕ) (token : Token) : Type 0 where
+pub record IsTokenCut (line : List ℕ) (token : Token) : Type 0 where
   pub order : token.start ≤ token.end
   pub start : IsCharBoundary line token.start
   pub end : IsCharBoundary line token.end
@@ -107,7 +107,7 @@ module _ (line : List ℕ) (utf8 : IsUtf8 line) where
             ],
           )
 
-  cut : (token : Token) → IsPlaced (content line) token → IsCut line token
+  cut : (token : Token) → IsPlaced (content line) token → IsTokenCut line token
   cut token placed =
       let ends = ends_cut token.start placed.inside in
       record {
@@ -116,5 +116,5 @@ module _ (line : List ℕ) (utf8 : IsUtf8 line) where
         end = subst (IsCharBoundary line) (sym placed.ended) ends.1;
       }
 
-  pub tokens_cut : All (IsCut line) (tokens line)
-  tokens_cut = All-weaker (IsPlaced (content line)) (IsCut line) cut (tokens line) (tokens_placed line)
+  pub tokens_cut : All (IsTokenCut line) (tokens line)
+  tokens_cut = All-weaker (IsPlaced (content line)) (IsTokenCut line) cut (tokens line) (tokens_placed line)

@@ -1,8 +1,11 @@
 //! The lines of a text.
-ghost use Rattle.std.specs.Prelude.{◌≡◌, ◌+◌, ◌^◌, ◌<◌, ◌≤◌, length, position};
+ghost use Rattle.std.specs.Prelude.{◌≡◌, ◌+◌, ◌^◌, ◌<◌, ◌≤◌, length, map, IfOk};
 ghost use Rattle.std.specs.Iterator.{YieldsFirst, item_count};
-ghost use Rattle.plain_text.specs.Lines.{is_break, ended_size as size_ended, lines as lines_in, IsFirstLine};
+ghost use Rattle.std.specs.List.{position_or_len};
+ghost use Rattle.plain_text.specs.Lines.{is_break, ended_size as size_ended, lines as lines_in, numbered_lines as numbered_in, IsFirstLine};
 
+use objective::Memory;
+use std::alloc::Global;
 use std::marker::Model;
 
 /// The place of a line in its text.
@@ -77,6 +80,18 @@ impl<'a> Iterator for TextLines<'a> {
     }
 }
 
+/// The lines of a text as texts, each with its number.
+pub fn numbered_lines<'a>(alloc: Global, text: &'a str) -> Result<Vec<(u32, &'a str)>, Memory>
+    requires { length text.now < 2 ^ 32 }
+    ensures { IfOk result (λ v. map (λ l. (l.0, l.1.now)) v.items ≡ numbered_in text.now) }
+{
+    let mut numbered = Vec::new(alloc);
+    for line in lines(text.as_bytes()) {
+        numbered.push((line.number, &text[line.start..line.end]))?;
+    }
+    Ok(numbered)
+}
+
 /// The size of the first line, and that of it with its end.
 fn first_line(text: &[u8]) -> (usize, usize)
     requires { 0 < length text.now }
@@ -85,17 +100,19 @@ fn first_line(text: &[u8]) -> (usize, usize)
     ensures shorter { result.0 ≤ result.1 }
     ensures within { result.1 ≤ length text.now }
 {
-    match first_break(text) {
-        Some(place) => (size_before_break(&text[..place]), place + 1),
-        None => (text.len(), text.len()),
+    let place = first_break(text);
+    if place < text.len() {
+        return (size_before_break(&text[..place]), place + 1);
     }
+    (place, place)
 }
 
-/// The place of the first line feed.
-fn first_break(text: &[u8]) -> Option<usize>
-    ensures { result ≡ position is_break text.now }
+/// The place of the first line feed; the length where there is none.
+fn first_break(text: &[u8]) -> usize
+    ensures value { result ≡ position_or_len is_break text.now }
+    ensures within { result ≤ length text.now }
 {
-    text.iter().position(|b| *b == b'\n')
+    text.iter().position(|b| *b == b'\n').unwrap_or(text.len())
 }
 
 /// The size of a line that a line feed ends.

@@ -13,7 +13,7 @@ mod times;
 mod tokenizer;
 mod words;
 
-pub use breaks::{Line, TextLines, lines};
+pub use breaks::{Line, TextLines, lines, numbered_lines};
 pub use cuts::{after_prefix, before_suffix, parted};
 pub use decimals::{push_seconds, read_count, seconds_text};
 pub use items::Items;

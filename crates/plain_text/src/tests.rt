@@ -1,5 +1,5 @@
 //! Worked times and lines.
-use crate::{TimeFault, lines, read_micros, token_texts, tokens};
+use crate::{TimeFault, lines, numbered_lines, read_micros, token_texts, tokens};
 use objective::{Memory, Micros};
 
 #[test]
@@ -93,6 +93,17 @@ fn finds_worked_lines(rt: HostRuntime) -> Result<(), Memory> {
             );
         }
         assert!(rt; found.next().is_none());
+    }
+    Ok(())
+}
+
+#[test]
+fn numbers_worked_lines(rt: HostRuntime) -> Result<(), Memory> {
+    let found = numbered_lines(rt.alloc(), "größe\r\n\n€")?;
+    let wanted = [(1, "größe"), (2, ""), (3, "€")];
+    assert_eq!(rt; found.len(), wanted.len());
+    for (line, expected) in found.iter().zip(wanted) {
+        assert_eq!(rt; *line, expected);
     }
     Ok(())
 }

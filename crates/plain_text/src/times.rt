@@ -1,5 +1,5 @@
 //! Times in seconds that are read from decimals.
-ghost use Rattle.std.specs.Prelude.{◌≡◌, ◌+◌, ◌*◌, ◌^◌, ◌<◌, ◌≤◌, ◌||◌, true, length, drop, min, position, IfSome, if◌then◌else◌};
+ghost use Rattle.std.specs.Prelude.{◌≡◌, ◌+◌, ◌*◌, ◌^◌, ◌<◌, ◌≤◌, ◌||◌, true, length, drop, min, IfSome, if◌then◌else◌};
 ghost use Rattle.std.specs.Char.{is_ascii_digit};
 ghost use Rattle.std.specs.List.{list_all, list_any, position_or_len};
 ghost use Rattle.std.specs.Str.Parse.{digits_value_after};
@@ -56,34 +56,16 @@ fn in_range(micros: u128) -> Result<Micros, TimeFault>
 fn letter_place(text: &[u8]) -> usize
     ensures { result ≡ position_or_len is_letter text.now }
 {
-    match first_letter(text) {
-        Some(place) => place,
-        None => text.len(),
-    }
-}
-
-/// The place of the first `e` or `E`.
-fn first_letter(text: &[u8]) -> Option<usize>
-    ensures { result ≡ position is_letter text.now }
-{
-    text.iter().position(|b| *b == b'e' || *b == b'E')
+    text.iter()
+        .position(|b| *b == b'e' || *b == b'E')
+        .unwrap_or(text.len())
 }
 
 /// The place of the first point; the length where there is none.
 fn point_place(text: &[u8]) -> usize
     ensures { result ≡ position_or_len is_point text.now }
 {
-    match first_point(text) {
-        Some(place) => place,
-        None => text.len(),
-    }
-}
-
-/// The place of the first point.
-fn first_point(text: &[u8]) -> Option<usize>
-    ensures { result ≡ position is_point text.now }
-{
-    text.iter().position(|b| *b == b'.')
+    text.iter().position(|b| *b == b'.').unwrap_or(text.len())
 }
 
 /// What stands after a place.

@@ -1,7 +1,7 @@
 //! Lines that are split into tokens.
-ghost use Rattle.std.specs.Prelude.{◌≡◌, ◌<◌, ◌≤◌, length, map, drop, position, IfOk};
+ghost use Rattle.std.specs.Prelude.{◌≡◌, ◌<◌, ◌≤◌, length, map, drop, IfOk};
 ghost use Rattle.std.specs.List.{position_or_len};
-ghost use Rattle.plain_text.specs.Tokens.{stands_alone as alone, parts_runs as parting, is_comment, content as content_of, begins as begins_at, token_end as end_at, tokens as tokens_of, token_texts as texts_of};
+ghost use Rattle.plain_text.specs.Tokens.{stands_alone as alone, parts_runs as parting, content as content_of, begins as begins_at, token_end as end_at, tokens as tokens_of, token_texts as texts_of};
 
 use crate::words::is_blank;
 use objective::Memory;
@@ -49,17 +49,8 @@ pub fn token_texts<'a>(alloc: Global, line: &'a str) -> Result<Vec<&'a str>, Mem
 fn content(line: &[u8]) -> &[u8]
     ensures { result.now ≡ content_of line.now }
 {
-    match first_comment(line) {
-        Some(place) => &line[..place],
-        None => line,
-    }
-}
-
-/// The place of the first `#`.
-fn first_comment(line: &[u8]) -> Option<usize>
-    ensures { result ≡ position is_comment line.now }
-{
-    line.iter().position(|b| *b == b'#')
+    let end = line.iter().position(|b| *b == b'#').unwrap_or(line.len());
+    &line[..end]
 }
 
 /// Whether the byte is a token of its own.
@@ -108,15 +99,7 @@ fn run_length(text: &[u8]) -> usize
     ensures value { result ≡ position_or_len parting text.now }
     ensures within { result ≤ length text.now }
 {
-    match first_parting(text) {
-        Some(place) => place,
-        None => text.len(),
-    }
-}
-
-/// The place of the first byte that is in no run.
-fn first_parting(text: &[u8]) -> Option<usize>
-    ensures { result ≡ position parting text.now }
-{
-    text.iter().position(|b| parts_runs(*b))
+    text.iter()
+        .position(|b| parts_runs(*b))
+        .unwrap_or(text.len())
 }

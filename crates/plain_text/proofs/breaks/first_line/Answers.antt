@@ -1,8 +1,9 @@
+use Rattle.std.proofs.Common.{arith}
 use Rattle.plain_text.proofs.FirstLine.{open_first, ended_first}
 use Rattle.plain_text.proofs.breaks.first_line.Goals as goal
 
-pub returns-in-None-clause-first : goal.returns-in-None-clause-first
-returns-in-None-clause-first c = open_first c.args.text.now c.requires c.in-None.ensures
+pub returns-then-place-text-clause-first : goal.returns-then-place-text-clause-first
+returns-then-place-text-clause-first c = ended_first c.args.text.now c.first_break-place.result c.size_before_break.result c.first_break-place.ensures.value c.if-place-text.true c.size_before_break.ensures.size
 
-pub returns-in-Some-clause-first : goal.returns-in-Some-clause-first
-returns-in-Some-clause-first c = (ended_first c.args.text.now c.in-Some.place c.size_before_break.result c.in-Some.ensures c.size_before_break.ensures.size).1
+pub returns-clause-first : goal.returns-clause-first
+returns-clause-first c = open_first c.args.text.now c.first_break-place.result c.requires c.first_break-place.ensures.value (omega arith)

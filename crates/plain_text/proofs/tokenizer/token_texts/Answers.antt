@@ -1,7 +1,7 @@
 use Rattle.std.proofs.Common.{◌≡◌, ◌∙◌, ap}
 use Rattle.std.proofs.lemmas.List.Elements.{All-same}
 use Rattle.plain_text.specs.Tokens.{tokens}
-use Rattle.plain_text.specs.TokenPlaces.{IsCut, tokens_cut}
+use Rattle.plain_text.specs.TokenPlaces.{IsTokenCut, tokens_cut}
 use Rattle.plain_text.proofs.tokenizer.token_texts.Goals as goal
 
 pub range-requires : goal.range-requires
@@ -9,5 +9,5 @@ range-requires c =
     let line = c.args.line.now in
     let items = c.deref-token-items.result.now in
     let same : items ≡ tokens line = c.deref-token-items.ensures.value ∙ c.in_ok-tokens.ensures ∙ ap tokens c.as_bytes.ensures.value in
-    let cut = All-same (IsCut line) items (tokens line) same (tokens_cut line c.utf8.line) c.loop-token.token-index (record { start = 0; end = 0 }) c.loop-token-test.true in
+    let cut = All-same (IsTokenCut line) items (tokens line) same (tokens_cut line c.utf8.line) c.loop-token.token-index (record { start = 0; end = 0 }) c.loop-token-test.true in
     record { start_le_end = cut.order; start_boundary = λ _. cut.start; end_boundary = cut.end }
