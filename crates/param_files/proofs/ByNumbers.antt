@@ -5,10 +5,9 @@ use Rattle.param_space.specs.declared.lists.Param.{Param}
 use Rattle.param_space.specs.declared.lists.Condition as condition
 use Rattle.param_space.specs.declared.lists.Forbidden.{Forbidden}
 use Rattle.param_files.specs.declared.faults.ParamFault.{ParamFault}
-use Rattle.param_files.specs.declared.faults.ParamFault.TheVariants.{At, Memory}
 use Rattle.param_files.specs.declared.statements.Statement.{Statement}
 use Rattle.param_files.specs.declared.statements.Statement.TheVariants.{Nothing, Parameter, Condition, Clause}
-use Rattle.param_files.specs.Reading.{◌>>=◌, in_line, of_space, condition_numbered, clause_numbered, Numbered, with_condition, with_clause, all_numbered, IsReadingFault}
+use Rattle.param_files.specs.Reading.{◌>>=◌, in_line, of_space, condition_numbered, clause_numbered, Numbered, with_condition, with_clause, all_numbered}
 use Rattle.param_files.specs.Keeping.{none_numbered, numbered_with}
 
 -- these before those that follow
@@ -105,8 +104,3 @@ unfolding all_numbered
 numbers_all params xs i n past e =
     e ∙ ap (λ ys. after_numbers n (all_numbered params ys)) (drop_all i xs past)
     ∙ rw (append-nil n.conditions, append-nil n.condition_lines, append-nil n.clauses, append-nil n.clause_lines) refl
-
--- a fault in one reading is one in another
-pub fault_moves : {A B : Type 0} (e : ParamFault) (r : Result A ParamFault) (q : Result B ParamFault) → ((f : ParamFault) → r ≡ Err f → q ≡ Err f) → IsReadingFault e r → IsReadingFault e q
-fault_moves (At line what) r q moves h = moves (At line what) h
-fault_moves Memory r q moves h = tt

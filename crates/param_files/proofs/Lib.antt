@@ -5,3 +5,5 @@ pub mod Ends
 pub mod Differ
 pub mod AllSome
 pub mod ByNumbers
+pub mod Readings
+pub mod KeptLines

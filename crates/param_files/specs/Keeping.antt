@@ -1,5 +1,5 @@
 -- What is kept of the lines of a parameter file: of a statement that means nothing, nothing.
-use Rattle.std.specs.Prelude.{ℕ, ◌≤◌, ◌+◌, Bool, true, false, ◌||◌, List, [], ◌∷◌, ◌++◌, Option, Result, Ok, length, map}
+use Rattle.std.specs.Prelude.{ℕ, ◌≡◌, ◌≤◌, ◌+◌, Bool, true, false, ◌||◌, List, [], ◌∷◌, ◌++◌, Option, Result, Ok, length, map}
 use Rattle.std.specs.List.{All, filter}
 use Rattle.param_space.specs.declared.lists.Param.{Param}
 use Rattle.param_space.specs.declared.lists.SpaceWhat.{SpaceWhat}
@@ -27,6 +27,10 @@ kept_of stated = record {
   conditions = length (filter is_condition (map (λ s. s.1) stated));
   clauses = length (filter is_clause (map (λ s. s.1) stated));
 }
+
+-- this is kept of the statements that are read
+abbrev pub AreKept : Result (List (ℕ × Statement)) ParamFault → Kept → Type 0
+AreKept read kept = (stated : List (ℕ × Statement)) × (read ≡ Ok stated) × (kept ≡ kept_of stated)
 
 -- the same and one more statement
 abbrev pub kept_and : Kept → ℕ → Statement → Kept

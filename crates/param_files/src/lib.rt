@@ -12,6 +12,7 @@ mod kept;
 mod line_rules;
 mod numbering;
 mod numbers;
+mod reader;
 mod statements;
 
 pub use faults::{ParamFault, ParamWhat};
