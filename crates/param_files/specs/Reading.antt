@@ -79,35 +79,35 @@ is_clause (Parameter name values default) = false
 is_clause (Condition child parent values) = false
 is_clause (Clause picks) = true
 
--- the first rule of a line that a parameter breaks, after these
-abbrev pub parameter_broken : List Param → List ℕ → List (List ℕ) → List ℕ → Option SpaceWhat
-parameter_broken params name values default = first_broken (
+-- the rules of a line that a parameter keeps, after these
+abbrev pub parameter_rules : List Param → List ℕ → List (List ℕ) → List ℕ → List (Bool × SpaceWhat)
+parameter_rules params name values default =
     (nat_lt (length params) 256 && nat_le (length values) 256, TooMany)
     ∷ (not (list_any (λ p. bytes_eq name p.name) params), DoubleName)
     ∷ (texts_differ values, DoubleValue)
     ∷ (list_any (bytes_eq default) values, BadDefault)
-    ∷ [])
+    ∷ []
 
--- the first rule of a line that a condition with these values breaks, after so many
-abbrev pub condition_broken : ℕ → List (List ℕ) → Option SpaceWhat
-condition_broken conditions values = first_broken (
+-- the rules of a line that a condition with these values keeps, after so many
+abbrev pub condition_rules : ℕ → List (List ℕ) → List (Bool × SpaceWhat)
+condition_rules conditions values =
     (nat_lt conditions 1024, TooMany)
     ∷ (texts_differ values, DoubleValue)
-    ∷ [])
+    ∷ []
 
--- the first rule of a line that a clause breaks, after so many
-abbrev pub clause_broken : ℕ → List NamedPick → Option SpaceWhat
-clause_broken clauses picks = first_broken (
+-- the rules of a line that a clause keeps, after so many
+abbrev pub clause_rules : ℕ → List NamedPick → List (Bool × SpaceWhat)
+clause_rules clauses picks =
     (nat_lt clauses 4096 && nat_le (length picks) 16, TooMany)
     ∷ (texts_differ (map (λ k. k.name) picks), DoubleName)
-    ∷ [])
+    ∷ []
 
 -- the first rule of a line that a statement breaks, after these parameters and so many conditions and clauses
 unfoldable pub fault_after : List Param → ℕ → ℕ → Statement → Option SpaceWhat
 fault_after params conditions clauses Nothing = None
-fault_after params conditions clauses (Parameter name values default) = parameter_broken params name values default
-fault_after params conditions clauses (Condition child parent values) = condition_broken conditions values
-fault_after params conditions clauses (Clause picks) = clause_broken clauses picks
+fault_after params conditions clauses (Parameter name values default) = first_broken (parameter_rules params name values default)
+fault_after params conditions clauses (Condition child parent values) = first_broken (condition_rules conditions values)
+fault_after params conditions clauses (Clause picks) = first_broken (clause_rules clauses picks)
 
 -- the first rule of a line that a statement breaks, after these statements
 abbrev pub statement_fault : List Statement → Statement → Option SpaceWhat
