@@ -1,5 +1,5 @@
 -- What passes the reading up to the numbers breaks no rule of a space but, perhaps, one of the whole.
-use Rattle.std.specs.Prelude.{ℕ, ◌≡◌, ◌<◌, ◌≤◌, ◌+◌, Bool, true, false, not, ◌&&◌, ◌||◌, List, [], ◌∷◌, ◌++◌, Option, Some, None, Result, Ok, Err, nat_lt, nat_le, length, map, bytes_eq, refl}
+use Rattle.std.specs.Prelude.{ℕ, ◌≡◌, ◌<◌, ◌≤◌, ◌+◌, Bool, true, false, not, ◌&&◌, ◌||◌, List, [], ◌∷◌, ◌++◌, Option, Some, None, Result, Ok, Err, nat_lt, nat_le, length, map, option_map, bytes_eq, refl}
 use Rattle.std.specs.List.{All, list_any, list_all, filter, position_or_len}
 use Rattle.std.proofs.Common.{ap, sym, ◌∙◌, subst, arith, cond}
 use Rattle.std.proofs.lemmas.Bool.{and_from, and_parts, ltb-true, leb-true, both_ways}
@@ -22,7 +22,7 @@ use Rattle.param_files.specs.declared.faults.ParamFault.{ParamFault}
 use Rattle.param_files.specs.declared.statements.NamedPick.{NamedPick}
 use Rattle.param_files.specs.declared.statements.Statement.{Statement}
 use Rattle.param_files.specs.declared.statements.Statement.TheVariants.{Nothing, Parameter, Condition, Clause}
-use Rattle.param_files.specs.Reading.{◌>>=◌, or_fault, unless, of_space, in_line, numbered_param, params_in, is_condition, is_clause, parameter_rules, condition_rules, clause_rules, fault_after, statement_fault, accepted, line_stated, lines_read, all_some, param_number, value_number, condition_numbered, pick_numbered, clause_numbered, Numbered, with_condition, with_clause, all_numbered, lists_of, some_params}
+use Rattle.param_files.specs.Reading.{◌>>=◌, or_fault, unless, of_space, in_line, numbered_param, params_in, is_condition, is_clause, parameter_rules, condition_rules, clause_rules, fault_after, statement_fault, accepted, line_stated, lines_read, all_some, param_number, value_number, condition_numbered, pick_of, pick_numbered, clause_numbered, Numbered, with_condition, with_clause, all_numbered, lists_of, some_params}
 use Rattle.param_files.specs.Formed.{IsFormed, line_formed}
 use Rattle.param_files.specs.Apart.{length-all_some, list_all-all_some, map-all_some, values_apart, picks_apart, param_below, value_below}
 
@@ -205,3 +205,100 @@ lines_pass ((number, line) ∷ later) earlier stated passed h =
         → (in_line number (r >>= accepted (map (λ x. x.1) earlier)) >>= rest) ≡ Ok stated → IsPassed stated
     by (Err what) formed go h = absurd (cc)
     by (Ok s) formed go h = at s (statement_fault (map (λ x. x.1) earlier) s) (λ none. go s none (formed s refl)) h
+
+-- ---- numbers
+
+-- the rules of a condition and of a clause of a space
+abbrev space_condition_rules : List Param → ℕ → condition.Condition → List (Bool × SpaceWhat)
+space_condition_rules params place c =
+    (nat_lt place 1024, TooMany)
+    ∷ (nat_lt 0 (length c.values), NoValues)
+    ∷ (numbers_differ c.values, DoubleValue)
+    ∷ (nat_lt c.child (length params) && nat_lt c.parent (length params), UnknownName)
+    ∷ (list_all (λ v. nat_lt v (value_count params c.parent)) c.values, UnknownValue)
+    ∷ []
+
+abbrev space_clause_rules : List Param → ℕ → Forbidden → List (Bool × SpaceWhat)
+space_clause_rules params place f =
+    (nat_lt place 4096 && nat_le (length f.picks) 16, TooMany)
+    ∷ (nat_lt 0 (length f.picks), NoValues)
+    ∷ (numbers_differ (map (λ k. k.param) f.picks), DoubleName)
+    ∷ (list_all (λ k. nat_lt k.param (length params)) f.picks, UnknownName)
+    ∷ (list_all (λ k. nat_lt k.value (value_count params k.param)) f.picks, UnknownValue)
+    ∷ []
+
+-- a condition by numbers breaks no rule of a space
+condition_passes : (params : List Param) (child parent : List ℕ) (values : List (List ℕ)) (c : condition.Condition) (place : ℕ) → IsGood (Condition child parent values) → condition_numbered params child parent values ≡ Ok c → place < 1024
+    → condition_fault params place c ≡ None
+unfolding condition_numbered
+condition_passes params child parent values c place good h room =
+    by (param_number params child) (param_number params parent) (λ i. param_below params child i) (λ j. param_below params parent j) h
+  where
+    same_ok : (x y : condition.Condition) → ◌≡◌ {A = Result condition.Condition SpaceWhat} (Ok x) (Ok y) → x ≡ y
+    same_ok x y e = cc
+
+    made : (i j : ℕ) (vs : List ℕ) → nat_lt i (length params) ≡ true → nat_lt j (length params) ≡ true → all_some (value_number params j) values ≡ Some vs → condition_fault params place (record { child = i; parent = j; values = vs }) ≡ None
+    made i j vs child_below parent_below read =
+        let size = length-all_some (value_number params j) values vs read in
+        let most : nat_lt place 1024 ≡ true = grind (arith, nat_tests, room) in
+        let first = good.0 in
+        let some : nat_lt 0 (length vs) ≡ true = grind (arith, nat_tests, size, first) in
+        none_broken (space_condition_rules params place (record { child = i; parent = j; values = vs }))
+        (most, (some, (values_apart params j values vs read good.1, (and_from (nat_lt i (length params)) (nat_lt j (length params)) child_below parent_below, (list_all-all_some (value_number params j) (λ v. nat_lt v (value_count params j)) values vs (λ value n. value_below params j value n) read, tt)))))
+
+    with_values : (i j : ℕ) (o : Option (List ℕ)) → nat_lt i (length params) ≡ true → nat_lt j (length params) ≡ true → all_some (value_number params j) values ≡ o
+        → (or_fault UnknownValue o >>= λ vs. Ok (record { child = i; parent = j; values = vs })) ≡ Ok c → condition_fault params place c ≡ None
+    with_values i j None a b read e = absurd (cc)
+    with_values i j (Some vs) a b read e = subst (λ x. condition_fault params place x ≡ None) (same_ok (record { child = i; parent = j; values = vs }) c e) (made i j vs a b read)
+
+    by : (o p : Option ℕ) → ((i : ℕ) → o ≡ Some i → nat_lt i (length params) ≡ true) → ((j : ℕ) → p ≡ Some j → nat_lt j (length params) ≡ true)
+        → (or_fault UnknownName o >>= λ i. or_fault UnknownName p >>= λ j. or_fault UnknownValue (all_some (value_number params j) values) >>= λ vs. Ok (record { child = i; parent = j; values = vs })) ≡ Ok c → condition_fault params place c ≡ None
+    by None p f g e = absurd (cc)
+    by (Some i) None f g e = absurd (cc)
+    by (Some i) (Some j) f g e = with_values i j (all_some (value_number params j) values) (f i refl) (g j refl) refl e
+
+-- what a pick by numbers is
+pick_known : (params : List Param) (k : NamedPick) (n : Pick) → pick_numbered params k ≡ Some n → (param_number params k.name ≡ Some n.param) × (value_number params n.param k.value ≡ Some n.value)
+unfolding pick_numbered
+pick_known params k n h = by (param_number params k.name) h
+  where
+    same_some : (x y : Pick) → Some x ≡ Some y → x ≡ y
+    same_some x y e = cc
+
+    at : (p : ℕ) (o : Option ℕ) → option_map (λ v. record { param = p; value = v }) o ≡ Some n → (p ≡ n.param) × (o ≡ Some n.value)
+    at p None e = absurd (cc)
+    at p (Some v) e = let same = same_some (record { param = p; value = v }) n e in (ap (λ x. x.param) same, ap (λ x. Some x.value) same)
+
+    by : (o : Option ℕ) → pick_of params k.value o ≡ Some n → (o ≡ Some n.param) × (value_number params n.param k.value ≡ Some n.value)
+    by None e = absurd (cc)
+    by (Some p) e = let found = at p (value_number params p k.value) e in (ap Some found.0, ap (λ q. value_number params q k.value) (sym found.0) ∙ found.1)
+
+-- a clause by numbers breaks no rule of a space
+clause_passes : (params : List Param) (picks : List NamedPick) (f : Forbidden) (place : ℕ) → IsGood (Clause picks) → clause_numbered params picks ≡ Ok f → place < 4096 → clause_fault params place f ≡ None
+unfolding clause_numbered
+clause_passes params picks f place good h room = by (all_some (λ k. param_number params k.name) picks) refl h
+  where
+    same_ok : (x y : Forbidden) → ◌≡◌ {A = Result Forbidden SpaceWhat} (Ok x) (Ok y) → x ≡ y
+    same_ok x y e = cc
+
+    made : (ns : List ℕ) (numbers : List Pick) → all_some (λ k. param_number params k.name) picks ≡ Some ns → all_some (pick_numbered params) picks ≡ Some numbers → clause_fault params place (record { picks = numbers }) ≡ None
+    made ns numbers names read =
+        let size = length-all_some (pick_numbered params) picks numbers read in
+        let first = good.0 in
+        let short = good.1 in
+        let most : (nat_lt place 4096 && nat_le (length numbers) 16) ≡ true = grind (arith, nat_tests, room, size, short) in
+        let some : nat_lt 0 (length numbers) ≡ true = grind (arith, nat_tests, size, first) in
+        let same : map (λ k. k.param) numbers ≡ ns = map-all_some (λ k. param_number params k.name) (pick_numbered params) (λ k. k.param) picks ns numbers (λ k n e. (pick_known params k n e).0) names read in
+        none_broken (space_clause_rules params place (record { picks = numbers }))
+        (most, (some, (ap numbers_differ same ∙ picks_apart params picks ns names good.2,
+            (list_all-all_some (pick_numbered params) (λ k. nat_lt k.param (length params)) picks numbers (λ k n e. param_below params k.name n.param (pick_known params k n e).0) read,
+                (list_all-all_some (pick_numbered params) (λ k. nat_lt k.value (value_count params k.param)) picks numbers (λ k n e. value_below params n.param k.value n.value (pick_known params k n e).1) read, tt)))))
+
+    with_values : (ns : List ℕ) (o : Option (List Pick)) → all_some (λ k. param_number params k.name) picks ≡ Some ns → all_some (pick_numbered params) picks ≡ o → (or_fault UnknownValue o >>= λ numbers. Ok (record { picks = numbers })) ≡ Ok f
+        → clause_fault params place f ≡ None
+    with_values ns None names read e = absurd (cc)
+    with_values ns (Some numbers) names read e = subst (λ x. clause_fault params place x ≡ None) (same_ok (record { picks = numbers }) f e) (made ns numbers names read)
+
+    by : (o : Option (List ℕ)) → all_some (λ k. param_number params k.name) picks ≡ o → (or_fault UnknownName o >>= λ _. or_fault UnknownValue (all_some (pick_numbered params) picks) >>= λ numbers. Ok (record { picks = numbers })) ≡ Ok f → clause_fault params place f ≡ None
+    by None names e = absurd (cc)
+    by (Some ns) names e = with_values ns (all_some (pick_numbered params) picks) names refl e

@@ -160,13 +160,14 @@ condition_numbered params child parent values =
     or_fault UnknownValue (all_some (value_number params p) values) >>= λ vs.
     Ok (record { child = c; parent = p; values = vs })
 
+-- this value of the parameter with a number
+abbrev pub pick_of : List Param → List ℕ → Option ℕ → Option Pick
+pick_of params value None = None
+pick_of params value (Some p) = option_map (λ v. record { param = p; value = v }) (value_number params p value)
+
 -- a pick by numbers
 unfoldable pub pick_numbered : List Param → NamedPick → Option Pick
-pick_numbered params pick = pick_of (param_number params pick.name)
-  where
-    pick_of : Option ℕ → Option Pick
-    pick_of None = None
-    pick_of (Some p) = option_map (λ v. record { param = p; value = v }) (value_number params p pick.value)
+pick_numbered params pick = pick_of params pick.value (param_number params pick.name)
 
 -- a clause by numbers: all its names, then its values
 unfoldable pub clause_numbered : List Param → List NamedPick → Result Forbidden SpaceWhat
