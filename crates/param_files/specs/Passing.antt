@@ -302,3 +302,84 @@ clause_passes params picks f place good h room = by (all_some (λ k. param_numbe
     by : (o : Option (List ℕ)) → all_some (λ k. param_number params k.name) picks ≡ o → (or_fault UnknownName o >>= λ _. or_fault UnknownValue (all_some (pick_numbered params) picks) >>= λ numbers. Ok (record { picks = numbers })) ≡ Ok f → clause_fault params place f ≡ None
     by None names e = absurd (cc)
     by (Some ns) names e = with_values ns (all_some (pick_numbered params) picks) names refl e
+
+-- conditions and clauses by numbers, from a place on each, break no rule of a space
+numbers_pass : (params : List Param) (stated : List (ℕ × Statement)) (numbered : Numbered) (m n : ℕ) → All (λ s. IsGood s.1) stated
+    → m + length (filter is_condition (map (λ s. s.1) stated)) ≤ 1024 → n + length (filter is_clause (map (λ s. s.1) stated)) ≤ 4096 → all_numbered params stated ≡ Ok numbered
+    → (first_in part.Condition (condition_fault params) m numbered.conditions ≡ None) × (first_in part.Forbidden (clause_fault params) n numbered.clauses ≡ None)
+unfolding all_numbered
+numbers_pass params [] numbered m n good a b h =
+    let same : numbered ≡ record { conditions = []; condition_lines = []; clauses = []; clause_lines = [] } = cc in
+    (ap (λ x. first_in part.Condition (condition_fault params) m x.conditions) same, ap (λ x. first_in part.Forbidden (clause_fault params) n x.clauses) same)
+numbers_pass params ((line, Nothing) ∷ later) numbered m n good a b h = numbers_pass params later numbered m n (All-tail (λ s. IsGood s.1) (line, Nothing) later good) a b h
+numbers_pass params ((line, Parameter name values default) ∷ later) numbered m n good a b h =
+    numbers_pass params later numbered m n (All-tail (λ s. IsGood s.1) (line, Parameter name values default) later good) a b h
+numbers_pass params ((line, Condition child parent values) ∷ later) numbered m n good a b h =
+    by (condition_numbered params child parent values) (all_numbered params later) refl (λ rest e. numbers_pass params later rest (m + 1) n (All-tail (λ s. IsGood s.1) (line, Condition child parent values) later good) (omega (arith, a)) b e) h
+  where
+    Passes : Numbered → ℕ → Type 0
+    Passes x k = (first_in part.Condition (condition_fault params) k x.conditions ≡ None) × (first_in part.Forbidden (clause_fault params) n x.clauses ≡ None)
+
+    same_ok : (x y : Numbered) → ◌≡◌ {A = Result Numbered ParamFault} (Ok x) (Ok y) → x ≡ y
+    same_ok x y e = cc
+
+    by : (r : Result condition.Condition SpaceWhat) (q : Result Numbered ParamFault) → condition_numbered params child parent values ≡ r → ((rest : Numbered) → q ≡ Ok rest → Passes rest (m + 1))
+        → (in_line line (of_space r) >>= λ c. q >>= λ x. Ok (with_condition line c x)) ≡ Ok numbered → Passes numbered m
+    by (Err what) q is rest e = absurd (cc)
+    by (Ok c) (Err fault) is rest e = absurd (cc)
+    by (Ok c) (Ok x) is rest e =
+        let here = condition_passes params child parent values c m (All-head (λ s. IsGood s.1) (line, Condition child parent values) later good) is (omega (arith, a)) in
+        let after = rest x refl in
+        subst (λ y. Passes y m) (same_ok (with_condition line c x) numbered e) (rw here after.0, after.1)
+numbers_pass params ((line, Clause picks) ∷ later) numbered m n good a b h =
+    by (clause_numbered params picks) (all_numbered params later) refl (λ rest e. numbers_pass params later rest m (n + 1) (All-tail (λ s. IsGood s.1) (line, Clause picks) later good) a (omega (arith, b)) e) h
+  where
+    Passes : Numbered → ℕ → Type 0
+    Passes x k = (first_in part.Condition (condition_fault params) m x.conditions ≡ None) × (first_in part.Forbidden (clause_fault params) k x.clauses ≡ None)
+
+    same_ok : (x y : Numbered) → ◌≡◌ {A = Result Numbered ParamFault} (Ok x) (Ok y) → x ≡ y
+    same_ok x y e = cc
+
+    by : (r : Result Forbidden SpaceWhat) (q : Result Numbered ParamFault) → clause_numbered params picks ≡ r → ((rest : Numbered) → q ≡ Ok rest → Passes rest (n + 1))
+        → (in_line line (of_space r) >>= λ f. q >>= λ x. Ok (with_clause line f x)) ≡ Ok numbered → Passes numbered n
+    by (Err what) q is rest e = absurd (cc)
+    by (Ok f) (Err fault) is rest e = absurd (cc)
+    by (Ok f) (Ok x) is rest e =
+        let here = clause_passes params picks f n (All-head (λ s. IsGood s.1) (line, Clause picks) later good) is (omega (arith, b)) in
+        let after = rest x refl in
+        subst (λ y. Passes y n) (same_ok (with_clause line f x) numbered e) (after.0, rw here after.1)
+
+-- ---- the lists
+
+-- what statements that were read and numbered make
+module _ (lines : List (ℕ × List ℕ)) (stated : List (ℕ × Statement)) (read : lines_read [] lines ≡ Ok stated) where
+  passed : IsPassed stated
+  passed = lines_pass lines [] stated none_passed read
+
+  module _ (params : List Param) (some : some_params (params_in (map (λ s. s.1) stated)) ≡ Ok params) where
+    -- the parameters break no rule of a space
+    pub params_pass : params_fault params ≡ None
+    params_pass = by (params_in (map (λ s. s.1) stated)) passed.params some
+      where
+        same_ok : (x y : List Param) → ◌≡◌ {A = Result (List Param) ParamFault} (Ok x) (Ok y) → x ≡ y
+        same_ok x y e = cc
+
+        by : (ps : List Param) → later_params_fault [] 0 ps ≡ None → some_params ps ≡ Ok params → params_fault params ≡ None
+        by [] none e = absurd (cc)
+        by (p ∷ ps) none e = subst (λ qs. params_fault qs ≡ None) (same_ok (p ∷ ps) params e) none
+
+    module _ (numbered : Numbered) (all : all_numbered params stated ≡ Ok numbered) where
+      numbers_kept : (conditions_fault params numbered.conditions ≡ None) × (clauses_fault params numbered.clauses ≡ None)
+      numbers_kept = numbers_pass params stated numbered 0 0 passed.each (omega (arith, passed.conditions)) (omega (arith, passed.clauses)) all
+
+      -- nor do the conditions
+      pub conditions_pass : conditions_fault params numbered.conditions ≡ None
+      conditions_pass = numbers_kept.0
+
+      -- nor the clauses
+      pub clauses_pass : clauses_fault params numbered.clauses ≡ None
+      clauses_pass = numbers_kept.1
+
+      -- it is left to look at the space as a whole
+      pub whole_left : space_fault (lists_of params numbered) ≡ or_else (cycle_fault (lists_of params numbered)) (default_fault (lists_of params numbered))
+      whole_left = rw (params_pass, conditions_pass, clauses_pass) refl
