@@ -79,35 +79,35 @@ is_clause (Parameter name values default) = false
 is_clause (Condition child parent values) = false
 is_clause (Clause picks) = true
 
--- the first rule of a line that a parameter breaks, after these
-abbrev pub parameter_broken : List Param → List ℕ → List (List ℕ) → List ℕ → Option SpaceWhat
-parameter_broken params name values default = first_broken (
+-- the rules of a line that a parameter keeps, after these
+abbrev pub parameter_rules : List Param → List ℕ → List (List ℕ) → List ℕ → List (Bool × SpaceWhat)
+parameter_rules params name values default =
     (nat_lt (length params) 256 && nat_le (length values) 256, TooMany)
     ∷ (not (list_any (λ p. bytes_eq name p.name) params), DoubleName)
     ∷ (texts_differ values, DoubleValue)
     ∷ (list_any (bytes_eq default) values, BadDefault)
-    ∷ [])
+    ∷ []
 
--- the first rule of a line that a condition with these values breaks, after so many
-abbrev pub condition_broken : ℕ → List (List ℕ) → Option SpaceWhat
-condition_broken conditions values = first_broken (
+-- the rules of a line that a condition with these values keeps, after so many
+abbrev pub condition_rules : ℕ → List (List ℕ) → List (Bool × SpaceWhat)
+condition_rules conditions values =
     (nat_lt conditions 1024, TooMany)
     ∷ (texts_differ values, DoubleValue)
-    ∷ [])
+    ∷ []
 
--- the first rule of a line that a clause breaks, after so many
-abbrev pub clause_broken : ℕ → List NamedPick → Option SpaceWhat
-clause_broken clauses picks = first_broken (
+-- the rules of a line that a clause keeps, after so many
+abbrev pub clause_rules : ℕ → List NamedPick → List (Bool × SpaceWhat)
+clause_rules clauses picks =
     (nat_lt clauses 4096 && nat_le (length picks) 16, TooMany)
     ∷ (texts_differ (map (λ k. k.name) picks), DoubleName)
-    ∷ [])
+    ∷ []
 
 -- the first rule of a line that a statement breaks, after these parameters and so many conditions and clauses
 unfoldable pub fault_after : List Param → ℕ → ℕ → Statement → Option SpaceWhat
 fault_after params conditions clauses Nothing = None
-fault_after params conditions clauses (Parameter name values default) = parameter_broken params name values default
-fault_after params conditions clauses (Condition child parent values) = condition_broken conditions values
-fault_after params conditions clauses (Clause picks) = clause_broken clauses picks
+fault_after params conditions clauses (Parameter name values default) = first_broken (parameter_rules params name values default)
+fault_after params conditions clauses (Condition child parent values) = first_broken (condition_rules conditions values)
+fault_after params conditions clauses (Clause picks) = first_broken (clause_rules clauses picks)
 
 -- the first rule of a line that a statement breaks, after these statements
 abbrev pub statement_fault : List Statement → Statement → Option SpaceWhat
@@ -160,13 +160,14 @@ condition_numbered params child parent values =
     or_fault UnknownValue (all_some (value_number params p) values) >>= λ vs.
     Ok (record { child = c; parent = p; values = vs })
 
+-- this value of the parameter with a number
+abbrev pub pick_of : List Param → List ℕ → Option ℕ → Option Pick
+pick_of params value None = None
+pick_of params value (Some p) = option_map (λ v. record { param = p; value = v }) (value_number params p value)
+
 -- a pick by numbers
 unfoldable pub pick_numbered : List Param → NamedPick → Option Pick
-pick_numbered params pick = pick_of (param_number params pick.name)
-  where
-    pick_of : Option ℕ → Option Pick
-    pick_of None = None
-    pick_of (Some p) = option_map (λ v. record { param = p; value = v }) (value_number params p pick.value)
+pick_numbered params pick = pick_of params pick.value (param_number params pick.name)
 
 -- a clause by numbers: all its names, then its values
 unfoldable pub clause_numbered : List Param → List NamedPick → Result Forbidden SpaceWhat

@@ -10,7 +10,10 @@ mod faults;
 mod forms;
 mod kept;
 mod line_rules;
+mod numbering;
+mod numbers;
 mod printer;
+mod reader;
 mod statements;
 
 pub use faults::{ParamFault, ParamWhat};

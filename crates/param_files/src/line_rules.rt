@@ -1,8 +1,8 @@
 //! The rules that a line keeps after the lines before it.
 ghost use Rattle.std.specs.Prelude.{◌≡◌, ◌≤◌, IfOk, None, length, map, bytes_eq};
 ghost use Rattle.std.specs.List.{list_any, position_or_len};
-ghost use Rattle.param_space.specs.Faults.{texts_differ as differ};
-ghost use Rattle.param_files.specs.Reading.{parameter_broken, condition_broken, clause_broken};
+ghost use Rattle.param_space.specs.Faults.{first_broken, texts_differ as differ};
+ghost use Rattle.param_files.specs.Reading.{parameter_rules, condition_rules, clause_rules};
 
 use crate::statements::NamedPick;
 use objective::Memory;
@@ -78,7 +78,7 @@ pub(crate) fn param_fault(
     values: &[Text],
     default: &str,
 ) -> Result<Option<SpaceWhat>, Memory>
-    ensures value { IfOk result (λ r. r ≡ parameter_broken params.now name.now values.now default.now) }
+    ensures value { IfOk result (λ r. r ≡ first_broken (parameter_rules params.now name.now values.now default.now)) }
     ensures few { IfOk result (λ r. r ≡ None → length values.now ≤ 256) }
 {
     if params.len() >= 256 || values.len() > 256 {
@@ -102,7 +102,7 @@ pub(crate) fn condition_fault(
     conditions: usize,
     values: &[Text],
 ) -> Result<Option<SpaceWhat>, Memory>
-    ensures value { IfOk result (λ r. r ≡ condition_broken conditions values.now) }
+    ensures value { IfOk result (λ r. r ≡ first_broken (condition_rules conditions values.now)) }
     ensures few { IfOk result (λ r. r ≡ None → conditions ≤ 1024) }
 {
     if conditions >= 1024 {
@@ -116,7 +116,7 @@ pub(crate) fn condition_fault(
 
 /// The first rule that a clause breaks, after so many clauses.
 pub(crate) fn clause_fault(clauses: usize, picks: &[NamedPick]) -> Option<SpaceWhat>
-    ensures value { result ≡ clause_broken clauses picks.now }
+    ensures value { result ≡ first_broken (clause_rules clauses picks.now) }
     ensures few { result ≡ None → clauses ≤ 4096 }
 {
     if clauses >= 4096 || picks.len() > 16 {
