@@ -13,11 +13,11 @@ use Rattle.param_space.specs.declared.lists.Forbidden.{Forbidden}
 use Rattle.param_space.specs.declared.lists.Part.TheVariants as part
 use Rattle.param_space.specs.Space.{Lists, names}
 use Rattle.param_space.specs.Faults.{texts_differ, first_in, param_fault, later_params_fault, params_fault, condition_fault, clause_fault, IsSpace}
-use Rattle.param_files.specs.declared.statements.NamedPick.{NamedPick}
 use Rattle.param_files.specs.declared.statements.Statement.{Statement}
 use Rattle.param_files.specs.declared.statements.Statement.TheVariants.{Nothing, Parameter, Condition as Conditional, Clause}
 use Rattle.param_files.specs.Printing.{value_of}
-use Rattle.param_files.specs.Reading.{numbered_param, params_in, is_condition, is_clause, parameter_broken, condition_broken, clause_broken, fault_after, statement_fault}
+use Rattle.param_files.specs.Reading.{numbered_param, params_in, is_condition, is_clause, parameter_rules, fault_after, statement_fault}
+use Rattle.param_files.specs.Reading as line
 use Rattle.param_files.specs.Stating.{param_stated, condition_stated, pick_stated, clause_stated, all_stated}
 use Rattle.param_files.specs.Holding.{param_rules, condition_rules, clause_rules, rules_hold, none_broken, none_here}
 use Rattle.param_files.specs.Sound.{IsSoundParam, sound_param, sound_params, names_apart}
@@ -51,11 +51,6 @@ params_in_push : (earlier : List Statement) (p : Param) → params_in (earlier +
 unfolding params_in
 params_in_push earlier p = params_in-append earlier (param_stated p ∷ [])
 
-parameter_kept : (params : List Param) (name : List ℕ) (values : List (List ℕ)) (default : List ℕ)
-    → (nat_lt (length params) 256 && nat_le (length values) 256) ≡ true → not (list_any (λ p. bytes_eq name p.name) params) ≡ true → texts_differ values ≡ true → list_any (bytes_eq default) values ≡ true
-    → parameter_broken params name values default ≡ None
-parameter_kept params name values default few new differ among = rw (few, new, differ, among)
-
 accept_params : (earlier : List Statement) (given : List (List ℕ)) (place : ℕ) (later : List Param) → given ≡ names (params_in earlier) → place ≡ length (params_in earlier) → later_params_fault given place later ≡ None
     → AreAccepted earlier (map param_stated later)
 unfolding fault_after
@@ -66,22 +61,16 @@ accept_params earlier given place (p ∷ later) same size h =
     let sound = sound_param given place p none.0 in
     let default = slice_index_or p.values p.default [] in
     let next = numbered_param p.name p.values default in
-    let pushed = params_in_push earlier p in (
-      parameter_kept (params_in earlier) p.name p.values default
-          (subst (λ n. (nat_lt n 256 && nat_le (length p.values) 256) ≡ true) size holds.0)
-          (ap not (name_among p.name (params_in earlier) ∙ ap (list_any (bytes_eq p.name)) (sym same)) ∙ holds.1.1.0)
-          sound.differ
-          (list_any_at (bytes_eq default) p.values p.default [] sound.default ((bytes_eq-Decides default default).1 refl)),
-      accept_params (earlier ++ param_stated p ∷ []) (given ++ p.name ∷ []) (place + 1) later
-          (ap (λ ns. ns ++ p.name ∷ []) same ∙ sym (map_push (λ q. q.name) (params_in earlier) next) ∙ ap names (sym pushed))
-          (ap (λ n. n + 1) size ∙ sym (length_push (params_in earlier) next) ∙ ap length (sym pushed))
-          none.1,
-    )
+    let pushed = params_in_push earlier p in
+    let few = subst (λ n. (nat_lt n 256 && nat_le (length p.values) 256) ≡ true) size holds.0 in
+    let new = ap not (name_among p.name (params_in earlier) ∙ ap (list_any (bytes_eq p.name)) (sym same)) ∙ holds.1.1.0 in
+    let among = list_any_at (bytes_eq default) p.values p.default [] sound.default ((bytes_eq-Decides default default).1 refl) in
+    let kept = none_broken (parameter_rules (params_in earlier) p.name p.values default) (few, (new, (sound.differ, (among, tt)))) in
+    let names_more = ap (λ ns. ns ++ p.name ∷ []) same ∙ sym (map_push (λ q. q.name) (params_in earlier) next) ∙ ap names (sym pushed) in
+    let one_later = ap (λ n. n + 1) size ∙ sym (length_push (params_in earlier) next) ∙ ap length (sym pushed) in
+    (kept, accept_params (earlier ++ param_stated p ∷ []) (given ++ p.name ∷ []) (place + 1) later names_more one_later none.1)
 
 -- ---- conditions
-
-condition_kept : (conditions : ℕ) (values : List (List ℕ)) → nat_lt conditions 1024 ≡ true → texts_differ values ≡ true → condition_broken conditions values ≡ None
-condition_kept conditions values few differ = rw (few, differ)
 
 one_more : (test : Statement → Bool) (earlier : List Statement) (s : Statement) (place : ℕ) → test s ≡ true → place ≡ length (filter test earlier) → place + 1 ≡ length (filter test (earlier ++ s ∷ []))
 one_more test earlier s place passes size =
@@ -95,17 +84,13 @@ module _ (params : List Param) (sound : All IsSoundParam params) where
   accept_conditions earlier place [] size h = tt
   accept_conditions earlier place (c ∷ later) size h =
       let none = none_here part.Condition place (condition_fault params place c) (first_in part.Condition (condition_fault params) (place + 1) later) h in
-      let s = condition_stated params c in (
-        condition_kept (length (filter is_condition earlier)) (map (value_of params c.parent) c.values)
-            (subst (λ n. nat_lt n 1024 ≡ true) size (rules_hold (condition_rules params place c) none.0).0)
-            (condition_apart params sound c (sound_condition params place c none.0)),
-        accept_conditions (earlier ++ s ∷ []) (place + 1) later (one_more is_condition earlier s place refl size) none.1,
-      )
+      let s = condition_stated params c in
+      let few = subst (λ n. nat_lt n 1024 ≡ true) size (rules_hold (condition_rules params place c) none.0).0 in
+      let differ = condition_apart params sound c (sound_condition params place c none.0) in
+      let kept = none_broken (line.condition_rules (length (filter is_condition earlier)) (map (value_of params c.parent) c.values)) (few, (differ, tt)) in
+      (kept, accept_conditions (earlier ++ s ∷ []) (place + 1) later (one_more is_condition earlier s place refl size) none.1)
 
 -- ---- clauses
-
-clause_kept : (clauses : ℕ) (picks : List NamedPick) → (nat_lt clauses 4096 && nat_le (length picks) 16) ≡ true → texts_differ (map (λ k. k.name) picks) ≡ true → clause_broken clauses picks ≡ None
-clause_kept clauses picks few differ = rw (few, differ)
 
 module _ (params : List Param) (apart : texts_differ (names params) ≡ true) where
   accept_clauses : (earlier : List Statement) (place : ℕ) (later : List Forbidden) → place ≡ length (filter is_clause earlier) → first_in part.Forbidden (clause_fault params) place later ≡ None
@@ -116,12 +101,10 @@ module _ (params : List Param) (apart : texts_differ (names params) ≡ true) wh
       let none = none_here part.Forbidden place (clause_fault params place f) (first_in part.Forbidden (clause_fault params) (place + 1) later) h in
       let s = clause_stated params f in
       let count : length (map (pick_stated params) f.picks) ≡ length f.picks = length-map f.picks (pick_stated params) in
-      let few = (rules_hold (clause_rules params place f) none.0).0 in (
-        clause_kept (length (filter is_clause earlier)) (map (pick_stated params) f.picks)
-            (ap (λ n. nat_lt (length (filter is_clause earlier)) 4096 && nat_le n 16) count ∙ subst (λ n. (nat_lt n 4096 && nat_le (length f.picks) 16) ≡ true) size few)
-            (clause_apart params f apart (sound_clause params place f none.0)),
-        accept_clauses (earlier ++ s ∷ []) (place + 1) later (one_more is_clause earlier s place refl size) none.1,
-      )
+      let few = ap (λ n. nat_lt (length (filter is_clause earlier)) 4096 && nat_le n 16) count ∙ subst (λ n. (nat_lt n 4096 && nat_le (length f.picks) 16) ≡ true) size (rules_hold (clause_rules params place f) none.0).0 in
+      let differ = clause_apart params f apart (sound_clause params place f none.0) in
+      let kept = none_broken (line.clause_rules (length (filter is_clause earlier)) (map (pick_stated params) f.picks)) (few, (differ, tt)) in
+      (kept, accept_clauses (earlier ++ s ∷ []) (place + 1) later (one_more is_clause earlier s place refl size) none.1)
 
 -- ---- all of them
 
