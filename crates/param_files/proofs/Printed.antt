@@ -1,7 +1,6 @@
 -- The lines of a space as they are formatted.
-use Rattle.std.specs.Prelude.{ℕ, ◌≡◌, List, [], ◌++◌, map, codes, refl}
+use Rattle.std.specs.Prelude.{ℕ, ◌≡◌, List, [], ◌++◌, map, codes}
 use Rattle.std.specs.List.{slice_index_or}
-use Rattle.std.proofs.Common.{ap, sym, ◌∙◌}
 use Rattle.std.proofs.lemmas.List.{append_assoc}
 use Rattle.param_space.specs.declared.lists.Param.{Param}
 use Rattle.param_space.specs.declared.lists.Condition.{Condition}

@@ -1,5 +1,5 @@
 -- The names and values of a space are read back as its numbers.
-use Rattle.std.specs.Prelude.{ℕ, ◌≡◌, ◌+◌, ◌<◌, Bool, true, not, ◌&&◌, nat_lt, List, [], ◌∷◌, ◌++◌, Option, Some, None, Ok, length, map, position, bytes_eq, All, refl}
+use Rattle.std.specs.Prelude.{ℕ, ◌≡◌, ◌+◌, ◌<◌, Bool, true, not, nat_lt, List, [], ◌∷◌, ◌++◌, Option, Some, None, Ok, length, map, position, bytes_eq, All, refl}
 use Rattle.std.specs.List.{list_all, position_or_len}
 use Rattle.std.proofs.Common.{ap, sym, ◌∙◌, subst, cond}
 use Rattle.std.proofs.lemmas.Bool.{and_parts, ltb-true}
@@ -12,7 +12,6 @@ use Rattle.param_space.specs.declared.lists.Pick.{Pick}
 use Rattle.param_space.specs.declared.lists.Forbidden.{Forbidden}
 use Rattle.param_space.specs.Space.{names, value_count}
 use Rattle.param_space.specs.Faults.{texts_differ}
-use Rattle.param_files.specs.declared.statements.NamedPick.{NamedPick}
 use Rattle.param_files.specs.declared.statements.Statement.{Statement}
 use Rattle.param_files.specs.Printing.{name_of, value_of}
 use Rattle.param_files.specs.Reading.{before, all_some, param_number, value_number, condition_numbered, pick_numbered, clause_numbered, Numbered, with_condition, with_clause, all_numbered}

@@ -1,8 +1,8 @@
 -- The lines of a printed space have no line feed and no carriage return.
 use Rattle.std.specs.Prelude.{ℕ, ◌≡◌, Bool, true, ◌&&◌, ◌==◌, not, List, [], ◌∷◌, ◌++◌, map, codes, refl}
 use Rattle.std.specs.List.{list_all, slice_index_or}
-use Rattle.std.proofs.Common.{ap, sym, ◌∙◌, arith}
-use Rattle.std.proofs.lemmas.Bool.{and_parts, and_from, false≢true}
+use Rattle.std.proofs.Common.{◌∙◌, arith}
+use Rattle.std.proofs.lemmas.Bool.{and_parts, and_from}
 use Rattle.std.proofs.lemmas.Bool.Decides.{nat_tests}
 use Rattle.std.proofs.lemmas.List.Folds.{list_all-append}
 use Rattle.plain_text.specs.Words.{is_word_byte, is_word}
@@ -12,9 +12,8 @@ use Rattle.param_space.specs.declared.lists.Param.{Param}
 use Rattle.param_space.specs.declared.lists.Condition as condition
 use Rattle.param_space.specs.declared.lists.Pick.{Pick}
 use Rattle.param_space.specs.declared.lists.Forbidden.{Forbidden}
-use Rattle.param_files.specs.declared.statements.NamedPick.{NamedPick}
 use Rattle.param_files.specs.Printing.{with_commas, name_of, value_of, param_line, condition_line, pick_text, clause_line}
-use Rattle.param_files.specs.WrittenForms.{are_values, are_picks, is_form, is_pick_of_words, all_words, all_picks}
+use Rattle.param_files.specs.WrittenForms.{are_values, is_form, is_pick_of_words, all_words, all_picks}
 use Rattle.param_files.specs.Stating.{param_stated, condition_stated, pick_stated, clause_stated}
 
 -- no line feed and no carriage return

@@ -1,24 +1,21 @@
 -- A printed space is read back as that space.
-use Rattle.std.specs.Prelude.{ℕ, ◌≡◌, ◌≤◌, ◌+◌, Bool, true, false, not, List, [], ◌∷◌, ◌++◌, Option, Some, None, Result, Ok, Err, nat_lt, length, map, bytes_eq, codes, All, IsUtf8, refl}
-use Rattle.std.specs.List.{flat_map, AllZip, slice_index_or}
+use Rattle.std.specs.Prelude.{ℕ, ◌≡◌, ◌≤◌, ◌+◌, true, List, [], ◌∷◌, ◌++◌, None, Ok, length, map, bytes_eq, All, IsUtf8, refl}
+use Rattle.std.specs.List.{AllZip, slice_index_or}
 use Rattle.std.proofs.Common.{ap, sym, ◌∙◌, subst}
 use Rattle.std.proofs.lemmas.Bool.{le-ltb}
 use Rattle.std.proofs.lemmas.List.{append-nil, append_assoc, map_push}
 use Rattle.std.proofs.lemmas.List.Elements.{All-nil, All-cons, All-head, All-tail, All-weaker}
 use Rattle.std.proofs.lemmas.Str.{is_utf8-from_IsUtf8}
 use Rattle.plain_text.specs.Tokens.{token_texts}
-use Rattle.plain_text.specs.Lines.{numbered_lines}
 use Rattle.plain_text.specs.LineTexts.{fits_line, numbered_from, numbered_lines-ended, numbered_lines-utf8}
 use Rattle.param_space.specs.declared.lists.Param.{Param}
 use Rattle.param_space.specs.declared.lists.Condition.{Condition}
 use Rattle.param_space.specs.declared.lists.Forbidden.{Forbidden}
 use Rattle.param_space.specs.declared.lists.Part.TheVariants as part
-use Rattle.param_space.specs.Space.{Lists, names}
-use Rattle.param_space.specs.Faults.{texts_differ, params_fault, later_params_fault, condition_fault, clause_fault, IsSpace}
-use Rattle.param_files.specs.declared.faults.ParamFault.{ParamFault}
+use Rattle.param_space.specs.Space.{Lists}
+use Rattle.param_space.specs.Faults.{params_fault, later_params_fault, condition_fault, clause_fault, IsSpace}
 use Rattle.param_files.specs.declared.statements.Statement.{Statement}
-use Rattle.param_files.specs.Grammar.{statement_of}
-use Rattle.param_files.specs.Reading.{numbered_param, params_in, line_stated, lines_read, Numbered, all_numbered, lists_of, ◌>>=◌, whole, some_params, space_stated, params_read}
+use Rattle.param_files.specs.Reading.{params_in, line_stated, lines_read, lists_of, whole, some_params, space_stated, params_read}
 use Rattle.param_files.specs.Printing.{param_line, condition_line, clause_line, space_lines, printed}
 use Rattle.param_files.specs.Written.{written}
 use Rattle.param_files.specs.WrittenForms.{is_form, statement_of-written}
@@ -29,7 +26,7 @@ use Rattle.param_files.specs.Holding.{All-faultless}
 use Rattle.param_files.specs.Sound.{IsSoundParam, param_form, sound_params, names_apart}
 use Rattle.param_files.specs.SoundRelations.{IsSoundCondition, IsSoundClause, sound_condition, sound_clause, condition_form, clause_form}
 use Rattle.param_files.specs.Accepting.{AreAccepted, params_in-append, later_none, space_accepted}
-use Rattle.param_files.specs.Numbering.{numbered_statements, ReadsAs, all_read}
+use Rattle.param_files.specs.Numbering.{numbered_statements, all_read}
 
 -- ---- lines
 

@@ -1,25 +1,22 @@
 -- What holds of each parameter, condition and clause of a space, and that it can be written.
-use Rattle.std.specs.Prelude.{ℕ, zero, suc, ◌≡◌, ◌+◌, ◌<◌, ◌==◌, Bool, true, false, not, ◌&&◌, ◌||◌, nat_lt, nat_le, List, [], ◌∷◌, ◌++◌, Option, Some, None, length, map, get_or, bytes_eq, All, refl}
+use Rattle.std.specs.Prelude.{ℕ, zero, suc, ◌≡◌, ◌+◌, ◌<◌, true, false, not, nat_lt, List, [], ◌∷◌, ◌++◌, None, length, map, get_or, bytes_eq, All, refl}
 use Rattle.std.specs.List.{list_any, list_all, slice_index_or}
-use Rattle.std.proofs.Common.{ap, sym, ◌∙◌, arith, subst}
-use Rattle.std.proofs.lemmas.Bool.{and_parts, and_from, and_left, or_from, or_left, or_right, not-true, not_from_false, both_ways, false_from_ne_true, ltb-true, lt-ltb, eq-eqb}
-use Rattle.std.proofs.lemmas.List.{length-map, append_assoc}
+use Rattle.std.proofs.Common.{sym, ◌∙◌, subst}
+use Rattle.std.proofs.lemmas.Bool.{and_parts, and_from, or_from, or_left, or_right, not-true, not_from_false, both_ways, false_from_ne_true, ltb-true}
+use Rattle.std.proofs.lemmas.List.{length-map}
 use Rattle.std.proofs.lemmas.List.Elements.{All-nil, All-cons, All-head, All-tail, All-map, All-weaker}
-use Rattle.std.proofs.lemmas.List.Folds.{list_any-append, list_all-map}
-use Rattle.std.proofs.lemmas.List.Sums.{AllPass-from_list_all, list_all-from_AllPass}
+use Rattle.std.proofs.lemmas.List.Folds.{list_any-append}
+use Rattle.std.proofs.lemmas.List.Sums.{AllPass-from_list_all}
 use Rattle.std.proofs.lemmas.Slice.Eq.{bytes_eq-Decides}
 use Rattle.plain_text.specs.Words.{is_word}
 use Rattle.param_space.specs.declared.lists.Param.{Param}
-use Rattle.param_space.specs.declared.lists.Condition as condition
-use Rattle.param_space.specs.declared.lists.Pick.{Pick}
-use Rattle.param_space.specs.declared.lists.Forbidden.{Forbidden}
 use Rattle.param_space.specs.declared.lists.Part.TheVariants as part
 use Rattle.param_space.specs.Space.{names, value_count}
-use Rattle.param_space.specs.Faults.{texts_differ, numbers_differ, first_broken, first_in, param_fault, later_params_fault, condition_fault, clause_fault}
+use Rattle.param_space.specs.Faults.{texts_differ, param_fault, later_params_fault}
 use Rattle.param_files.specs.Printing.{name_of, value_of}
-use Rattle.param_files.specs.WrittenForms.{are_values, are_picks, is_form, is_pick_of_words}
-use Rattle.param_files.specs.Stating.{param_stated, condition_stated, pick_stated, clause_stated}
-use Rattle.param_files.specs.Holding.{param_rules, condition_rules, clause_rules, rules_hold, none_here}
+use Rattle.param_files.specs.WrittenForms.{are_values, is_form}
+use Rattle.param_files.specs.Stating.{param_stated}
+use Rattle.param_files.specs.Holding.{param_rules, rules_hold, none_here}
 
 -- ---- parameters
 

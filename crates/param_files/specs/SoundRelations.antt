@@ -1,5 +1,5 @@
 -- What holds of each condition and each clause of a space, and that it can be written.
-use Rattle.std.specs.Prelude.{ℕ, ◌≡◌, ◌<◌, Bool, true, false, ◌&&◌, nat_lt, nat_le, List, [], ◌∷◌, None, length, map, bytes_eq, All, refl}
+use Rattle.std.specs.Prelude.{ℕ, ◌≡◌, ◌<◌, true, nat_lt, nat_le, List, [], ◌∷◌, None, length, map, All, refl}
 use Rattle.std.specs.List.{list_all}
 use Rattle.std.proofs.Common.{ap, sym, ◌∙◌, subst}
 use Rattle.std.proofs.lemmas.Bool.{and_parts, and_from, ltb-true}
@@ -13,7 +13,7 @@ use Rattle.param_space.specs.declared.lists.Forbidden.{Forbidden}
 use Rattle.param_space.specs.Space.{names, value_count}
 use Rattle.param_space.specs.Faults.{texts_differ, numbers_differ, condition_fault, clause_fault}
 use Rattle.param_files.specs.Printing.{name_of, value_of}
-use Rattle.param_files.specs.WrittenForms.{are_values, are_picks, is_form, is_pick_of_words}
+use Rattle.param_files.specs.WrittenForms.{are_values, is_form, is_pick_of_words}
 use Rattle.param_files.specs.Stating.{condition_stated, pick_stated, clause_stated}
 use Rattle.param_files.specs.OwnPlaces.{places_differ, texts_of_numbers}
 use Rattle.param_files.specs.Holding.{condition_rules, clause_rules, rules_hold}

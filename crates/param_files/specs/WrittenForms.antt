@@ -1,14 +1,14 @@
 -- The tokens that a statement is written with are read as that statement.
-use Rattle.std.specs.Prelude.{ℕ, ◌≡◌, Bool, true, false, ◌&&◌, nat_lt, List, [], ◌∷◌, ◌++◌, Option, Some, None, length, option_map, bytes_eq, codes, refl}
+use Rattle.std.specs.Prelude.{ℕ, ◌≡◌, Bool, true, false, ◌&&◌, nat_lt, List, [], ◌∷◌, ◌++◌, Some, None, length, option_map, bytes_eq, codes, refl}
 use Rattle.std.specs.List.{list_all}
-use Rattle.std.proofs.Common.{ap, sym, ◌∙◌, subst}
+use Rattle.std.proofs.Common.{ap, subst}
 use Rattle.std.proofs.lemmas.Bool.{and_parts, false≢true, false_from_ne_true, both_ways}
 use Rattle.std.proofs.lemmas.Slice.Eq.{bytes_eq-Decides}
 use Rattle.plain_text.specs.Words.{is_word}
 use Rattle.param_files.specs.declared.statements.NamedPick.{NamedPick}
 use Rattle.param_files.specs.declared.statements.Statement.{Statement}
 use Rattle.param_files.specs.declared.statements.Statement.TheVariants.{Nothing, Parameter, Condition, Clause}
-use Rattle.param_files.specs.Grammar.{listed, picked, ended_clause, clause_of, ended_condition, condition_of, listed_parameter, parameter_of, statement_of}
+use Rattle.param_files.specs.Grammar.{listed, picked, ended_clause, clause_of, condition_of, parameter_of, statement_of}
 use Rattle.param_files.specs.Written.{parted_values, parted_picks, written}
 
 -- one or more values, all of them words

@@ -1,7 +1,4 @@
-use Rattle.std.proofs.Common.{◌≡◌, ◌++◌, ap, ◌∙◌, sym, append_assoc}
-use Rattle.std.specs.List.{flat_map}
-use Rattle.param_files.specs.Printing.{param_line, condition_line, clause_line}
-use Rattle.param_files.proofs.Commas.{ended, printed-parts, three_parts}
+use Rattle.param_files.proofs.Commas.{three_parts}
 use Rattle.param_files.proofs.printer.space_text.Goals as goal
 
 pub returns : goal.returns
