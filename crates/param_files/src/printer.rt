@@ -68,11 +68,11 @@ fn parted_values(
 ) -> Result<String, Memory>
     ensures { IfOk result (λ t. string_bytes t ≡ with_commas (map (value_of params.now number) values.now)) }
 {
-    let mut listed = Vec::new(alloc);
+    let mut chosen = Vec::new(alloc);
     for value in values {
-        listed.push(value_at(params, number, *value))?;
+        chosen.push(value_at(params, number, *value))?;
     }
-    Ok(listed.join(alloc, ", ")?)
+    Ok(chosen.join(alloc, ", ")?)
 }
 
 /// `child | parent in {v1, v2}`.
@@ -98,11 +98,11 @@ fn pick_text(alloc: Global, params: &[Param], pick: &Pick) -> Result<String, Mem
 fn parted_picks(alloc: Global, params: &[Param], picks: &[Pick]) -> Result<String, Memory>
     ensures { IfOk result (λ t. string_bytes t ≡ with_commas (map (text_of_pick params.now) picks.now)) }
 {
-    let mut listed = Vec::new(alloc);
+    let mut pairs = Vec::new(alloc);
     for pick in picks {
-        listed.push(pick_text(alloc, params, pick)?)?;
+        pairs.push(pick_text(alloc, params, pick)?)?;
     }
-    Ok(listed.join(alloc, ", ")?)
+    Ok(pairs.join(alloc, ", ")?)
 }
 
 /// `{name=value, name=value}`.

@@ -8,4 +8,4 @@ pub returns : goal.returns
 returns c =
     let text = pick_text c.args.params.now in
     let all = c.loop-pick.invariant ∙ ap (map text) (take_all c.loop-pick.pick-index c.args.picks.now c.loop-pick-test.false) in
-    c.in_ok-join.ensures.ok ∙ joined (λ t. string_bytes t) c.loop-pick.listed.items c.deref.result.now (map text c.args.picks.now) c.deref.ensures.value all
+    c.in_ok-join.ensures.ok ∙ joined (λ t. string_bytes t) c.loop-pick.pairs.items c.deref.result.now (map text c.args.picks.now) c.deref.ensures.value all
