@@ -11,7 +11,6 @@ pub mod OnlyWritten
 pub mod Stating
 pub mod PlainLines
 pub mod OwnPlaces
-pub mod Holding
 pub mod Sound
 pub mod SoundRelations
 pub mod Accepting

@@ -14,6 +14,7 @@ use Rattle.param_space.specs.declared.lists.Forbidden.{Forbidden}
 use Rattle.param_space.specs.declared.lists.Part.TheVariants as part
 use Rattle.param_space.specs.Space.{Lists}
 use Rattle.param_space.specs.Faults.{params_fault, later_params_fault, condition_fault, clause_fault, IsSpace}
+use Rattle.param_space.specs.Rules.{All-faultless}
 use Rattle.param_files.specs.declared.statements.Statement.{Statement}
 use Rattle.param_files.specs.Reading.{params_in, line_stated, lines_read, lists_of, whole, some_params, space_stated, params_read}
 use Rattle.param_files.specs.Printing.{param_line, condition_line, clause_line, space_lines, printed}
@@ -22,7 +23,6 @@ use Rattle.param_files.specs.WrittenForms.{is_form, statement_of-written}
 use Rattle.param_files.specs.Stating.{param_stated, condition_stated, clause_stated, all_stated, param_tokens, condition_tokens, clause_tokens}
 use Rattle.param_files.specs.PlainLines.{param_fits, condition_fits, clause_fits}
 use Rattle.param_files.specs.OwnPlaces.{bytes_eq-sym, place_of}
-use Rattle.param_files.specs.Holding.{All-faultless}
 use Rattle.param_files.specs.Sound.{IsSoundParam, param_form, sound_params, names_apart}
 use Rattle.param_files.specs.SoundRelations.{IsSoundCondition, IsSoundClause, sound_condition, sound_clause, condition_form, clause_form}
 use Rattle.param_files.specs.Accepting.{AreAccepted, params_in-append, later_none, space_accepted}

@@ -12,11 +12,11 @@ use Rattle.plain_text.specs.Words.{is_word}
 use Rattle.param_space.specs.declared.lists.Param.{Param}
 use Rattle.param_space.specs.declared.lists.Part.TheVariants as part
 use Rattle.param_space.specs.Space.{names, value_count}
-use Rattle.param_space.specs.Faults.{texts_differ, param_fault, later_params_fault}
+use Rattle.param_space.specs.Faults.{texts_differ, param_fault, later_params_fault, param_rules}
+use Rattle.param_space.specs.Rules.{rules_hold, none_here}
 use Rattle.param_files.specs.Printing.{name_of, value_of}
 use Rattle.param_files.specs.WrittenForms.{are_values, is_form}
 use Rattle.param_files.specs.Stating.{param_stated}
-use Rattle.param_files.specs.Holding.{param_rules, rules_hold, none_here}
 
 -- ---- parameters
 

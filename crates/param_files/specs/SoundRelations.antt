@@ -11,12 +11,12 @@ use Rattle.param_space.specs.declared.lists.Condition.{Condition}
 use Rattle.param_space.specs.declared.lists.Pick.{Pick}
 use Rattle.param_space.specs.declared.lists.Forbidden.{Forbidden}
 use Rattle.param_space.specs.Space.{names, value_count}
-use Rattle.param_space.specs.Faults.{texts_differ, numbers_differ, condition_fault, clause_fault}
+use Rattle.param_space.specs.Faults.{texts_differ, numbers_differ, condition_fault, clause_fault, condition_rules, clause_rules}
+use Rattle.param_space.specs.Rules.{rules_hold}
 use Rattle.param_files.specs.Printing.{name_of, value_of}
 use Rattle.param_files.specs.WrittenForms.{are_values, is_form, is_pick_of_words}
 use Rattle.param_files.specs.Stating.{condition_stated, pick_stated, clause_stated}
 use Rattle.param_files.specs.OwnPlaces.{places_differ, texts_of_numbers}
-use Rattle.param_files.specs.Holding.{condition_rules, clause_rules, rules_hold}
 use Rattle.param_files.specs.Sound.{IsSoundParam, name_word, values_at, length-values_at, values_apart, value_word}
 
 -- a condition that keeps its own rules
