@@ -7,3 +7,4 @@ pub mod AllSome
 pub mod ByNumbers
 pub mod Readings
 pub mod KeptLines
+pub mod Wholes

@@ -16,3 +16,4 @@ mod reader;
 mod statements;
 
 pub use faults::{ParamFault, ParamWhat};
+pub use reader::read_params;
