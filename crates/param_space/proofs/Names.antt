@@ -1,10 +1,8 @@
--- Looking for a name among parameters.
-use Rattle.std.proofs.Common.{◌≡◌, ℕ, Bool, ◌||◌, List, [], ◌∷◌, refl, ap}
+-- Tests of what a list's elements are mapped to.
+use Rattle.std.proofs.Common.{◌≡◌, Bool, ◌||◌, List, [], ◌∷◌, map, refl, ap}
 use Rattle.std.specs.List.{list_any}
-use Rattle.param_space.specs.declared.lists.Param.{Param}
-use Rattle.param_space.specs.Space.{names}
 
--- a name passes a test where a parameter's name does
-pub name_passes : (test : List ℕ → Bool) (params : List Param) → list_any test (names params) ≡ list_any (λ p. test p.name) params
-name_passes test [] = refl
-name_passes test (p ∷ ps) = ap (λ rest. test p.name || rest) (name_passes test ps)
+-- one of the mapped elements passes where one of the elements does
+pub list_any-map : {X Y : Type 0} (test : Y → Bool) (f : X → Y) (xs : List X) → list_any test (map f xs) ≡ list_any (λ x. test (f x)) xs
+list_any-map test f [] = refl
+list_any-map test f (x ∷ xs) = ap (λ rest. test (f x) || rest) (list_any-map test f xs)

@@ -1,11 +1,13 @@
 -- The text of settings, one setting after another.
-use Rattle.std.proofs.Common.{◌≡◌, ◌<◌, ◌≤◌, ◌+◌, ◌++◌, ◌∙◌, ℕ, zero, suc, List, [], ◌∷◌, length, take, get_or, refl, sym, ap, arith, append_assoc, add-one}
+use Rattle.std.proofs.Common.{◌≡◌, ◌<◌, ◌≤◌, ◌+◌, ◌==◌, ◌++◌, ◌∙◌, ℕ, zero, suc, Bool, true, false, cond, List, [], ◌∷◌, length, take, take_all, get_or, refl, sym, ap, arith, append_assoc, add-one}
 use Rattle.std.specs.Prelude.{codes}
 use Rattle.std.specs.List.{slice_index_or}
-use Rattle.std.proofs.lemmas.List.{get_or_read}
+use Rattle.std.proofs.lemmas.Bool.Decides.{nat_tests}
+use Rattle.std.proofs.lemmas.List.{get_or_read, append-nil, length-append}
 use Rattle.param_space.specs.declared.lists.Param.{Param}
-use Rattle.param_space.specs.Space.{Belongs}
-use Rattle.param_space.specs.Settings.{named_values, setting_text, settings_text}
+use Rattle.param_space.specs.Configurations.{is_active}
+use Rattle.param_space.specs.Space.{Lists, Belongs}
+use Rattle.param_space.specs.Settings.{named_values, at_places, active_values, setting_text, settings_text, with_setting}
 use Rattle.param_space.specs.Belonging.{length-Belongs, read_value_in_range}
 
 -- a parameter's name and the value with this number
@@ -26,6 +28,18 @@ settings_text-more s (u ∷ us) t =
     let more : settings_text (u ∷ us ++ t ∷ []) ≡ settings_text (u ∷ us) ++ (codes " " ++ setting_text t) = settings_text-more u us t in
     ap (λ rest. setting_text s ++ (codes " " ++ rest)) more ∙ sym (append_assoc (setting_text s) (codes " " ++ settings_text (u ∷ us)) (codes " " ++ setting_text t))
 
+-- settings have a text that isn't empty
+some_text : (s : List ℕ × List ℕ) (ss : List (List ℕ × List ℕ)) → 0 < length (settings_text (s ∷ ss))
+some_text s [] = omega (arith, length-append s.0 (codes "=" ++ s.1))
+some_text s (t ∷ ss) = omega (arith, length-append (setting_text s) (codes " " ++ settings_text (t ∷ ss)))
+
+-- settings with one more have the text with one more
+with_one_more : (settings : List (List ℕ × List ℕ)) (s : List ℕ × List ℕ) → with_setting (settings_text settings) s ≡ settings_text (settings ++ s ∷ [])
+with_one_more [] s = refl
+with_one_more (t ∷ ts) s =
+    let later : (length (settings_text (t ∷ ts)) == 0) ≡ false = (let some = some_text t ts in grind (arith, nat_tests, some)) in
+    rw later (sym (settings_text-more t ts s))
+
 -- what a loop reads at a place is the parameter's name and its value there
 read_setting : (params : List Param) (values : List ℕ) (i : ℕ) (p : Param) (texts : List (List ℕ)) (text name value : List ℕ)
     → Belongs params values → i < length params → p ≡ get_or params i p → texts ≡ p.values → text ≡ get_or texts (get_or values i 0) text → name ≡ p.name → value ≡ text
@@ -37,31 +51,102 @@ read_setting params values i p texts text name value h lt is e read f g =
     let same_value : value ≡ get_or (get_or params i p).values (get_or values i 0) [] = g ∙ get_or_read texts (get_or values i 0) text below read [] ∙ ap (λ xs. get_or xs (get_or values i 0) []) same_texts in
     ap (λ n. setting_text (n, value)) same_name ∙ ap (λ v. setting_text ((get_or params i p).name, v)) same_value
 
--- the text of the first i settings
-abbrev pub text_until : List Param → List ℕ → ℕ → List ℕ
-text_until params values i = settings_text (named_values (take i params) (take i values))
+-- one element more, where its place passes and where it doesn't
+at_places-more : {X : Type 0} (passes : ℕ → Bool) (place : ℕ) (xs : List X) (x : X) → at_places passes place (xs ++ x ∷ []) ≡ at_places passes place xs ++ cond (passes (place + length xs)) (x ∷ []) []
+at_places-more passes place [] x = only (passes place) (passes (place + 0)) (ap passes (let e : place ≡ place + 0 = omega arith in e))
+  where
+    only : (a b : Bool) → a ≡ b → cond a (x ∷ []) [] ≡ [] ++ cond b (x ∷ []) []
+    only true true e = refl
+    only false false e = refl
+    only true false e = absurd (cc)
+    only false true e = absurd (cc)
+at_places-more passes place (y ∷ ys) x = by (passes place) (at_places-more passes (place + 1) ys x ∙ ap (λ k. at_places passes (place + 1) ys ++ cond (passes k) (x ∷ []) []) (let e : (place + 1) + length ys ≡ place + suc (length ys) = omega arith in e))
+  where
+    by : (b : Bool) → at_places passes (place + 1) (ys ++ x ∷ []) ≡ at_places passes (place + 1) ys ++ cond (passes (place + suc (length ys))) (x ∷ []) []
+        → cond b (y ∷ at_places passes (place + 1) (ys ++ x ∷ [])) (at_places passes (place + 1) (ys ++ x ∷ [])) ≡ cond b (y ∷ at_places passes (place + 1) ys) (at_places passes (place + 1) ys) ++ cond (passes (place + suc (length ys))) (x ∷ []) []
+    by true rest = ap (λ zs. y ∷ zs) rest
+    by false rest = rest
 
--- the first setting
-pub text_first : (params : List Param) (values : List ℕ) (i : ℕ) (p : Param) (texts : List (List ℕ)) (text name value after : List ℕ)
-    → Belongs params values → i < length params → p ≡ get_or params i p → texts ≡ p.values → text ≡ get_or texts (get_or values i 0) text → name ≡ p.name → value ≡ text
-    → i ≤ 0 → after ≡ text_until params values i ++ setting_text (name, value) → after ≡ text_until params values (i + 1)
-text_first params values (suc i) p texts text name value after h lt is e read f g first made = absurd (omega arith)
-text_first params values zero p texts text name value after h lt is e read f g first made =
-    let same = read_setting params values 0 p texts text name value h lt is e read f g in
-    let more = ap settings_text (named_values-more params values 0 p lt (omega (arith, length-Belongs params values h))) in
-    made ∙ same ∙ sym more
+length-named_values : (params : List Param) (values : List ℕ) (i : ℕ) → i ≤ length params → i ≤ length values → length (named_values (take i params) (take i values)) ≡ i
+length-named_values params values zero h k = refl
+length-named_values [] values (suc i) h k = absurd (omega arith)
+length-named_values (p ∷ ps) [] (suc i) h k = absurd (omega arith)
+length-named_values (p ∷ ps) (v ∷ vs) (suc i) h k = let more = length-named_values ps vs i (omega arith) (omega arith) in omega (arith, more)
 
--- each later one follows a space
-pub text_later : (params : List Param) (values : List ℕ) (i : ℕ) (p : Param) (texts : List (List ℕ)) (text name value after : List ℕ)
-    → Belongs params values → i < length params → p ≡ get_or params i p → texts ≡ p.values → text ≡ get_or texts (get_or values i 0) text → name ≡ p.name → value ≡ text
-    → 0 < i → after ≡ (text_until params values i ++ codes " ") ++ setting_text (name, value) → after ≡ text_until params values (i + 1)
-text_later params values zero p texts text name value after h lt is e read f g later made = absurd (omega arith)
-text_later [] values (suc i) p texts text name value after h lt is e read f g later made = absurd (omega arith)
-text_later (q ∷ ps) [] (suc i) p texts text name value after h lt is e read f g later made = absurd h
-text_later (q ∷ ps) (v ∷ vs) (suc i) p texts text name value after h lt is e read f g later made =
-    let same = read_setting (q ∷ ps) (v ∷ vs) (suc i) p texts text name value h lt is e read f g in
-    let long = length-Belongs (q ∷ ps) (v ∷ vs) h in
-    let more = ap settings_text (named_values-more (q ∷ ps) (v ∷ vs) (suc i) p lt (omega (arith, long))) in
-    let joined = settings_text-more (named q v) (named_values (take i ps) (take i vs)) (named (get_or ps i p) (get_or vs i 0)) in
-    let before : List ℕ = text_until (q ∷ ps) (v ∷ vs) (suc i) in
-    rw add-one (made ∙ append_assoc before (codes " ") (setting_text (name, value)) ∙ ap (λ t. before ++ (codes " " ++ t)) same ∙ sym joined ∙ sym more)
+-- the settings whose marks are set, of the first i
+abbrev pub settings_until : List Bool → List Param → List ℕ → ℕ → List (List ℕ × List ℕ)
+settings_until marks params values i = at_places (λ k. slice_index_or marks k false) 0 (named_values (take i params) (take i values))
+
+until_more : (marks : List Bool) (params : List Param) (values : List ℕ) (i : ℕ) (d : Param) (b : Bool) → Belongs params values → i < length params → slice_index_or marks i false ≡ b
+    → settings_until marks params values (i + 1) ≡ settings_until marks params values i ++ cond b (named (get_or params i d) (get_or values i 0) ∷ []) []
+until_more marks params values i d b h lt mark =
+    let long = length-Belongs params values h in
+    let passes : ℕ → Bool = λ k. slice_index_or marks k false in
+    let so_far : List (List ℕ × List ℕ) = named_values (take i params) (take i values) in
+    let here = named (get_or params i d) (get_or values i 0) in
+    let place : 0 + length so_far ≡ i = omega (arith, length-named_values params values i (omega (arith, lt)) (omega (arith, lt, long))) in
+    rw add-one (ap (at_places passes 0) (named_values-more params values i d lt (omega (arith, lt, long)))
+    ∙ at_places-more passes 0 so_far here
+    ∙ ap (λ k. at_places passes 0 so_far ++ cond (passes k) (here ∷ []) []) place
+    ∙ ap (λ c. at_places passes 0 so_far ++ cond c (here ∷ []) []) mark)
+
+-- a parameter whose mark isn't set adds nothing
+pub unmarked_more : (marks : List Bool) (params : List Param) (values : List ℕ) (i : ℕ) (d : Param) → Belongs params values → i < length params → slice_index_or marks i false ≡ false
+    → settings_until marks params values (i + 1) ≡ settings_until marks params values i
+unmarked_more marks params values i d h lt mark = until_more marks params values i d false h lt mark ∙ append-nil (settings_until marks params values i)
+
+-- a setting that a loop reads at a place, appended to the text so far
+pub record IsReading (marks : List Bool) (params : List Param) (values : List ℕ) (i : ℕ) (p : Param) (texts : List (List ℕ)) (text name value before : List ℕ) : Type 0 where
+  pub belongs : Belongs params values
+  pub within : i < length params
+  pub is : p ≡ get_or params i p
+  pub texts-are : texts ≡ p.values
+  pub read : text ≡ get_or texts (get_or values i 0) text
+  pub name-is : name ≡ p.name
+  pub value-is : value ≡ text
+  pub so_far : before ≡ settings_text (settings_until marks params values i)
+  pub marked : slice_index_or marks i false ≡ true
+
+-- what it is with the setting
+pub one_read : (marks : List Bool) (params : List Param) (values : List ℕ) (i : ℕ) (p : Param) (texts : List (List ℕ)) (text name value before after : List ℕ) → IsReading marks params values i p texts text name value before
+    → after ≡ with_setting before (name, value) → after ≡ settings_text (settings_until marks params values (i + 1))
+one_read marks params values i p texts text name value before after r made =
+    let same = read_setting params values i p texts text name value r.belongs r.within r.is r.texts-are r.read r.name-is r.value-is in
+    let more = until_more marks params values i p true r.belongs r.within r.marked in
+    made ∙ ap (λ t. with_setting t (name, value)) r.so_far
+    ∙ ap (λ t. cond (length (settings_text (settings_until marks params values i)) == 0) t (settings_text (settings_until marks params values i) ++ (codes " " ++ t))) same
+    ∙ with_one_more (settings_until marks params values i) (named (get_or params i p) (get_or values i 0))
+    ∙ ap settings_text (sym more)
+
+-- after all parameters it is the text of all settings whose marks are set
+pub all_read : (marks : List Bool) (params : List Param) (values : List ℕ) (i : ℕ) (text : List ℕ) → Belongs params values → length params ≤ i → text ≡ settings_text (settings_until marks params values i)
+    → text ≡ settings_text (at_places (λ k. slice_index_or marks k false) 0 (named_values params values))
+all_read marks params values i text h end so_far =
+    let passes : ℕ → Bool = λ k. slice_index_or marks k false in
+    let short : length values ≤ i = omega (arith, length-Belongs params values h, end) in
+    so_far ∙ ap (λ ps. settings_text (at_places passes 0 (named_values ps (take i values)))) (take_all i params end)
+    ∙ ap (λ vs. settings_text (at_places passes 0 (named_values params vs))) (take_all i values short)
+
+-- tests that agree below m keep the same elements
+at_places-alike : {X : Type 0} (f g : ℕ → Bool) (m place : ℕ) (xs : List X) → place + length xs ≤ m → ((k : ℕ) → k < m → f k ≡ g k) → at_places f place xs ≡ at_places g place xs
+at_places-alike f g m place [] h same = refl
+at_places-alike f g m place (x ∷ xs) h same =
+    let later : at_places f (place + 1) xs ≡ at_places g (place + 1) xs = at_places-alike f g m (place + 1) xs (omega (arith, h)) same in
+    ap (λ b. cond b (x ∷ at_places f (place + 1) xs) (at_places f (place + 1) xs)) (same place (omega (arith, h)))
+    ∙ ap (λ zs. cond (g place) (x ∷ zs) zs) later
+
+-- the text of the marked settings is that of the active ones
+pub active_text : (lists : Lists) (config : List ℕ) (marks : List Bool) (params : List Param) (values text : List ℕ) → Belongs lists.params config → length lists.params ≤ 256 → params ≡ lists.params → values ≡ config
+    → ((p : ℕ) → p < 256 → slice_index_or marks p false ≡ is_active lists config p)
+    → text ≡ settings_text (at_places (λ k. slice_index_or marks k false) 0 (named_values params values)) → text ≡ settings_text (active_values lists config)
+active_text lists config marks params values text h few same same-values marked made =
+    let passes : ℕ → Bool = λ k. slice_index_or marks k false in
+    let all : length (named_values lists.params config) ≡ length lists.params = length-all lists.params config h in
+    made ∙ ap (λ ps. settings_text (at_places passes 0 (named_values ps values))) same
+    ∙ ap (λ vs. settings_text (at_places passes 0 (named_values lists.params vs))) same-values
+    ∙ ap settings_text (at_places-alike passes (is_active lists config) 256 0 (named_values lists.params config) (omega (arith, all, few)) marked)
+  where
+    length-all : (ps : List Param) (vs : List ℕ) → Belongs ps vs → length (named_values ps vs) ≡ length ps
+    length-all [] vs h = refl
+    length-all (p ∷ ps) [] h = absurd h
+    length-all (p ∷ ps) (v ∷ vs) h = let more = length-all ps vs h.1 in omega (arith, more)

@@ -1,81 +1,60 @@
 -- Which configurations belong to a space.
-use Rattle.std.proofs.Common.{◌≡◌, ◌<◌, ◌≤◌, ◌+◌, ◌++◌, ℕ, zero, suc, Bool, true, false, not, ◌&&◌, nat_lt, nat_le, bytes_eq, List, [], ◌∷◌, Option, Some, None, length, get_or, refl, sym, ap, subst, ◌∙◌, arith}
-use Rattle.std.specs.List.{list_any, list_all, slice_set}
-use Rattle.plain_text.specs.Words.{is_word}
+use Rattle.std.proofs.Common.{◌≡◌, ◌<◌, ◌≤◌, ◌+◌, ◌++◌, ℕ, zero, suc, List, [], ◌∷◌, None, length, get_or, refl, sym, ap, subst, ◌∙◌, arith}
+use Rattle.std.specs.List.{slice_set}
 use Rattle.std.proofs.lemmas.Bool.Decides.{nat_tests}
 use Rattle.param_space.specs.declared.lists.Param.{Param}
-use Rattle.param_space.specs.declared.lists.SpaceWhat.{SpaceWhat}
-use Rattle.param_space.specs.declared.lists.SpaceWhat.TheVariants.{TooMany, BadWord, DoubleName, NoValues, DoubleValue, BadDefault}
-use Rattle.param_space.specs.declared.lists.SpaceFault.{SpaceFault}
-use Rattle.param_space.specs.Space.{all_differ, first_broken, param_fault, or_later, params_fault, space_fault, defaults, Belongs}
-
--- where no rule is broken, the last holds too
-last_holds : (a b c d e f : Bool) → first_broken ((a, TooMany) ∷ (b, BadWord) ∷ (c, DoubleName) ∷ (d, NoValues) ∷ (e, DoubleValue) ∷ (f, BadDefault) ∷ []) ≡ None → f ≡ true
-last_holds true true true true true true h = refl
-last_holds true true true true true false h = absurd (cc)
-last_holds true true true true false f h = absurd (cc)
-last_holds true true true false e f h = absurd (cc)
-last_holds true true false d e f h = absurd (cc)
-last_holds true false c d e f h = absurd (cc)
-last_holds false b c d e f h = absurd (cc)
-
--- and so does the first
-first_holds : (a b c d e f : Bool) → first_broken ((a, TooMany) ∷ (b, BadWord) ∷ (c, DoubleName) ∷ (d, NoValues) ∷ (e, DoubleValue) ∷ (f, BadDefault) ∷ []) ≡ None → a ≡ true
-first_holds true b c d e f h = refl
-first_holds false b c d e f h = absurd (cc)
+use Rattle.param_space.specs.declared.lists.Part.TheVariants as part
+use Rattle.param_space.specs.Space.{defaults, Belongs}
+use Rattle.param_space.specs.Faults.{param_rules, param_fault, later_params_fault, params_fault}
+use Rattle.param_space.specs.Rules.{rules_hold, none_here}
 
 -- the default of a parameter without a fault is one of its values
 default_is_value : (earlier : List (List ℕ)) (place : ℕ) (p : Param) → param_fault earlier place p ≡ None → p.default < length p.values
 default_is_value earlier place p h =
-    let below : nat_lt p.default (length p.values) ≡ true = last_holds (nat_lt place 256 && nat_le (length p.values) 256) (is_word p.name && list_all is_word p.values) (not (list_any (bytes_eq p.name) earlier)) (nat_lt 0 (length p.values)) (all_differ p.values) (nat_lt p.default (length p.values)) h in
+    let below = (rules_hold (param_rules earlier place p) h).1.1.1.1.1.0 in
     grind (arith, nat_tests, below)
 
--- without a fault at a place and later there is none
-none_here : (place : ℕ) (what : Option SpaceWhat) (later : Option SpaceFault) → or_later place what later ≡ None → (what ≡ None) × (later ≡ None)
-none_here place None later h = (refl, h)
-none_here place (Some what) later h = absurd (cc)
-
-defaults_belong : (params : List Param) (earlier : List (List ℕ)) (place : ℕ) → params_fault earlier place params ≡ None → Belongs params (defaults params)
+defaults_belong : (params : List Param) (earlier : List (List ℕ)) (place : ℕ) → later_params_fault earlier place params ≡ None → Belongs params (defaults params)
 defaults_belong [] earlier place h = tt
 defaults_belong (p ∷ later) earlier place h =
-    let none = none_here place (param_fault earlier place p) (params_fault (earlier ++ p.name ∷ []) (place + 1) later) h in
+    let none = none_here part.Param place (param_fault earlier place p) (later_params_fault (earlier ++ p.name ∷ []) (place + 1) later) h in
     (default_is_value earlier place p none.0, defaults_belong later (earlier ++ p.name ∷ []) (place + 1) none.1)
 
 -- the defaults of a space belong to it
-pub Belongs-defaults : (params : List Param) → space_fault params ≡ None → Belongs params (defaults params)
+pub Belongs-defaults : (params : List Param) → params_fault params ≡ None → Belongs params (defaults params)
 Belongs-defaults [] h = absurd (cc)
 Belongs-defaults (p ∷ later) h = defaults_belong (p ∷ later) [] 0 h
 
 -- a parameter without a fault stands below place 256 and has at most 256 values
 within_limits : (earlier : List (List ℕ)) (place : ℕ) (p : Param) → param_fault earlier place p ≡ None → (place < 256) × (length p.values ≤ 256)
 within_limits earlier place p h =
-    let within : (nat_lt place 256 && nat_le (length p.values) 256) ≡ true = first_holds (nat_lt place 256 && nat_le (length p.values) 256) (is_word p.name && list_all is_word p.values) (not (list_any (bytes_eq p.name) earlier)) (nat_lt 0 (length p.values)) (all_differ p.values) (nat_lt p.default (length p.values)) h in
+    let within = (rules_hold (param_rules earlier place p) h).0 in
     grind (arith, nat_tests, within)
 
-few_from : (params : List Param) (earlier : List (List ℕ)) (place : ℕ) → params_fault earlier place params ≡ None → place ≤ 256 → place + length params ≤ 256
+few_from : (params : List Param) (earlier : List (List ℕ)) (place : ℕ) → later_params_fault earlier place params ≡ None → place ≤ 256 → place + length params ≤ 256
 few_from [] earlier place h le = omega arith
 few_from (p ∷ later) earlier place h le =
-    let none = none_here place (param_fault earlier place p) (params_fault (earlier ++ p.name ∷ []) (place + 1) later) h in
+    let none = none_here part.Param place (param_fault earlier place p) (later_params_fault (earlier ++ p.name ∷ []) (place + 1) later) h in
     let here = within_limits earlier place p none.0 in
     let more = few_from later (earlier ++ p.name ∷ []) (place + 1) none.1 (omega arith) in
     omega arith
 
-few_values_from : (params : List Param) (earlier : List (List ℕ)) (place i : ℕ) (d : Param) → params_fault earlier place params ≡ None → i < length params → length (get_or params i d).values ≤ 256
+few_values_from : (params : List Param) (earlier : List (List ℕ)) (place i : ℕ) (d : Param) → later_params_fault earlier place params ≡ None → i < length params → length (get_or params i d).values ≤ 256
 few_values_from [] earlier place i d h lt = absurd (omega arith)
 few_values_from (p ∷ later) earlier place zero d h lt =
-    let none = none_here place (param_fault earlier place p) (params_fault (earlier ++ p.name ∷ []) (place + 1) later) h in
+    let none = none_here part.Param place (param_fault earlier place p) (later_params_fault (earlier ++ p.name ∷ []) (place + 1) later) h in
     (within_limits earlier place p none.0).1
 few_values_from (p ∷ later) earlier place (suc i) d h lt =
-    let none = none_here place (param_fault earlier place p) (params_fault (earlier ++ p.name ∷ []) (place + 1) later) h in
+    let none = none_here part.Param place (param_fault earlier place p) (later_params_fault (earlier ++ p.name ∷ []) (place + 1) later) h in
     few_values_from later (earlier ++ p.name ∷ []) (place + 1) i d none.1 (omega arith)
 
 -- a space has at most 256 parameters
-pub few_params : (params : List Param) → space_fault params ≡ None → length params ≤ 256
+pub few_params : (params : List Param) → params_fault params ≡ None → length params ≤ 256
 few_params [] h = absurd (cc)
 few_params (p ∷ later) h = let few = few_from (p ∷ later) [] 0 h (omega arith) in omega arith
 
 -- and each of them has at most 256 values
-pub few_values : (params : List Param) (i : ℕ) (d : Param) → space_fault params ≡ None → i < length params → length (get_or params i d).values ≤ 256
+pub few_values : (params : List Param) (i : ℕ) (d : Param) → params_fault params ≡ None → i < length params → length (get_or params i d).values ≤ 256
 few_values [] i d h lt = absurd (cc)
 few_values (p ∷ later) i d h lt = few_values_from (p ∷ later) [] 0 i d h lt
 

@@ -54,15 +54,19 @@ numbers_differ numbers = differ (◌==◌) numbers
 -- ---- parameters
 
 -- the rules of the parameter at a place, after parameters with these names
-abbrev pub param_fault : List (List ℕ) → ℕ → Param → Option SpaceWhat
-param_fault earlier place p = first_broken (
+abbrev pub param_rules : List (List ℕ) → ℕ → Param → List (Bool × SpaceWhat)
+param_rules earlier place p =
     (nat_lt place 256 && nat_le (length p.values) 256, TooMany)
     ∷ (is_word p.name && list_all is_word p.values, BadWord)
     ∷ (not (list_any (bytes_eq p.name) earlier), DoubleName)
     ∷ (nat_lt 0 (length p.values), NoValues)
     ∷ (texts_differ p.values, DoubleValue)
     ∷ (nat_lt p.default (length p.values), BadDefault)
-    ∷ [])
+    ∷ []
+
+-- the first of them that it breaks
+abbrev pub param_fault : List (List ℕ) → ℕ → Param → Option SpaceWhat
+param_fault earlier place p = first_broken (param_rules earlier place p)
 
 -- the first fault of the parameters from a place on, after parameters with these names
 abbrev pub later_params_fault : List (List ℕ) → ℕ → List Param → Option SpaceFault
@@ -78,14 +82,18 @@ params_fault (p ∷ later) = later_params_fault [] 0 (p ∷ later)
 -- ---- conditions
 
 -- the rules of the condition at a place
-abbrev pub condition_fault : List Param → ℕ → Condition → Option SpaceWhat
-condition_fault params place c = first_broken (
+abbrev pub condition_rules : List Param → ℕ → Condition → List (Bool × SpaceWhat)
+condition_rules params place c =
     (nat_lt place 1024, TooMany)
     ∷ (nat_lt 0 (length c.values), NoValues)
     ∷ (numbers_differ c.values, DoubleValue)
     ∷ (nat_lt c.child (length params) && nat_lt c.parent (length params), UnknownName)
     ∷ (list_all (λ v. nat_lt v (value_count params c.parent)) c.values, UnknownValue)
-    ∷ [])
+    ∷ []
+
+-- the first of them that it breaks
+abbrev pub condition_fault : List Param → ℕ → Condition → Option SpaceWhat
+condition_fault params place c = first_broken (condition_rules params place c)
 
 -- the first fault of the conditions
 abbrev pub conditions_fault : List Param → List Condition → Option SpaceFault
@@ -94,14 +102,18 @@ conditions_fault params conditions = first_in part.Condition (condition_fault pa
 -- ---- forbidden clauses
 
 -- the rules of the forbidden clause at a place
-abbrev pub clause_fault : List Param → ℕ → Forbidden → Option SpaceWhat
-clause_fault params place f = first_broken (
+abbrev pub clause_rules : List Param → ℕ → Forbidden → List (Bool × SpaceWhat)
+clause_rules params place f =
     (nat_lt place 4096 && nat_le (length f.picks) 16, TooMany)
     ∷ (nat_lt 0 (length f.picks), NoValues)
     ∷ (numbers_differ (map (λ k. k.param) f.picks), DoubleName)
     ∷ (list_all (λ k. nat_lt k.param (length params)) f.picks, UnknownName)
     ∷ (list_all (λ k. nat_lt k.value (value_count params k.param)) f.picks, UnknownValue)
-    ∷ [])
+    ∷ []
+
+-- the first of them that it breaks
+abbrev pub clause_fault : List Param → ℕ → Forbidden → Option SpaceWhat
+clause_fault params place f = first_broken (clause_rules params place f)
 
 -- the first fault of the forbidden clauses
 abbrev pub clauses_fault : List Param → List Forbidden → Option SpaceFault
@@ -109,21 +121,40 @@ clauses_fault params forbidden = first_in part.Forbidden (clause_fault params) 0
 
 -- ---- the space as a whole
 
+-- no condition's child is its own ancestor
+abbrev pub cycle_rules : Lists → Condition → List (Bool × SpaceWhat)
+cycle_rules lists c = (not (is_ancestor lists c.child c.child), Cycle) ∷ []
+
 -- the first condition whose child is its own ancestor
 abbrev pub cycle_fault : Lists → Option SpaceFault
-cycle_fault lists =
-    first_in part.Condition (λ _ c. first_broken ((not (is_ancestor lists c.child c.child), Cycle) ∷ [])) 0 lists.conditions
+cycle_fault lists = first_in part.Condition (λ _ c. first_broken (cycle_rules lists c)) 0 lists.conditions
+
+-- no clause forbids the configuration of the defaults
+abbrev pub default_rules : Lists → Forbidden → List (Bool × SpaceWhat)
+default_rules lists f = (not (is_forbidden_by lists (defaults lists.params) f), DefaultForbidden) ∷ []
 
 -- the first clause that forbids the configuration of the defaults
 abbrev pub default_fault : Lists → Option SpaceFault
-default_fault lists =
-    first_in part.Forbidden (λ _ f. first_broken ((not (is_forbidden_by lists (defaults lists.params) f), DefaultForbidden) ∷ [])) 0 lists.forbidden
+default_fault lists = first_in part.Forbidden (λ _ f. first_broken (default_rules lists f)) 0 lists.forbidden
+
+-- the first fault of three lists, each by itself
+abbrev pub lists_fault : Lists → Option SpaceFault
+lists_fault lists =
+    or_else (params_fault lists.params) (or_else (conditions_fault lists.params lists.conditions) (clauses_fault lists.params lists.forbidden))
+
+-- the first fault of them as a whole
+abbrev pub whole_fault : Lists → Option SpaceFault
+whole_fault lists = or_else (cycle_fault lists) (default_fault lists)
 
 -- the first fault of three lists
 abbrev pub space_fault : Lists → Option SpaceFault
-space_fault lists =
-    or_else (params_fault lists.params) (or_else (conditions_fault lists.params lists.conditions)
-        (or_else (clauses_fault lists.params lists.forbidden) (or_else (cycle_fault lists) (default_fault lists))))
+space_fault lists = or_else (lists_fault lists) (whole_fault lists)
+
+-- lists of which each by itself has no fault
+pub record AreFaultless (lists : Lists) : Type 0 where
+  pub params : params_fault lists.params ≡ None
+  pub conditions : conditions_fault lists.params lists.conditions ≡ None
+  pub clauses : clauses_fault lists.params lists.forbidden ≡ None
 
 -- lists that make a space: they break no rule
 pub record IsSpace (lists : Lists) : Type 0 where

@@ -1,5 +1,5 @@
 -- A configuration as names and values, and as the text that is printed.
-use Rattle.std.specs.Prelude.{ℕ, ◌+◌, Bool, List, [], ◌∷◌, ◌++◌, codes, if◌then◌else◌}
+use Rattle.std.specs.Prelude.{ℕ, ◌+◌, ◌==◌, Bool, List, [], ◌∷◌, ◌++◌, length, codes, if◌then◌else◌}
 use Rattle.std.specs.List.{slice_index_or}
 use Rattle.param_space.specs.declared.lists.Param.{Param}
 use Rattle.param_space.specs.Space.{Lists}
@@ -30,3 +30,7 @@ abbrev pub settings_text : List (List ℕ × List ℕ) → List ℕ
 settings_text [] = []
 settings_text (s ∷ []) = setting_text s
 settings_text (s ∷ t ∷ later) = setting_text s ++ (codes " " ++ settings_text (t ∷ later))
+
+-- a text of settings with one more setting
+abbrev pub with_setting : List ℕ → List ℕ × List ℕ → List ℕ
+with_setting text s = if length text == 0 then setting_text s else text ++ (codes " " ++ setting_text s)

@@ -1,8 +1,14 @@
 //! Parameter spaces: parameters with their values, and configurations of them.
 #![tactic(auto)]
 
+mod activity;
+mod ancestry;
+mod checking;
 mod config;
+mod copies;
 mod lists;
+mod marks;
+mod relations;
 mod rules;
 mod settings;
 mod space;

@@ -1,8 +1,10 @@
 //! The parts of a parameter space, and its faults.
 ghost use Rattle.std.specs.Prelude.{◌≡◌, IfOk};
+ghost use Rattle.param_space.specs.declared.lists.SpaceFault.TheVariants.{Memory as NoMemory};
 
 use objective::Memory;
 use plain_text::{Items, Text};
+use thiserror::Error;
 
 /// A parameter with its values. Values are numbered from 0.
 #[derive(Drop)]
@@ -43,6 +45,20 @@ pub struct Condition {
     pub values: Items<u16>,
 }
 
+impl Condition {
+    /// The same condition.
+    pub fn copy(&self) -> Result<Condition, Memory>
+        ensures { IfOk result (λ c. c ≡ self.now) }
+    {
+        let values = self.values.as_slice();
+        Ok(Condition {
+            child: self.child,
+            parent: self.parent,
+            values: Items::new(values.to_vec(*self.values.allocator())?),
+        })
+    }
+}
+
 /// A value of a parameter.
 #[derive(Clone, Copy, Debug, PartialEq, Eq)]
 pub struct Pick {
@@ -57,6 +73,18 @@ pub struct Pick {
 pub struct Forbidden {
     /// The settings.
     pub picks: Items<Pick>,
+}
+
+impl Forbidden {
+    /// The same clause.
+    pub fn copy(&self) -> Result<Forbidden, Memory>
+        ensures { IfOk result (λ f. f ≡ self.now) }
+    {
+        let picks = self.picks.as_slice();
+        Ok(Forbidden {
+            picks: Items::new(picks.to_vec(*self.picks.allocator())?),
+        })
+    }
 }
 
 /// The list that a fault of a space is in.
@@ -100,9 +128,10 @@ pub enum SpaceWhat {
 }
 
 /// Why lists make no space.
-#[derive(Clone, Copy, Debug, PartialEq, Eq)]
+#[derive(Clone, Copy, Debug, PartialEq, Eq, Error)]
 pub enum SpaceFault {
     /// The first broken rule, at this place of this list, from 0.
+    #[error("{part:?} {place}: {what:?}")]
     At {
         /// The list.
         part: Part,
@@ -112,5 +141,14 @@ pub enum SpaceFault {
         what: SpaceWhat,
     },
     /// There is no memory left.
+    #[error("no memory left")]
     Memory,
+}
+
+impl From<Memory> for SpaceFault {
+    ghost from_gives = { λ _ fault. fault ≡ NoMemory };
+
+    fn from(_e: Memory) -> SpaceFault {
+        SpaceFault::Memory
+    }
 }

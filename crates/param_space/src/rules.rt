@@ -2,7 +2,8 @@
 ghost use Rattle.std.specs.Prelude.{◌≡◌, [], map, bytes_eq};
 ghost use Rattle.std.specs.List.{list_any, list_all};
 ghost use Rattle.plain_text.specs.Words.{is_word as word};
-ghost use Rattle.param_space.specs.Space.{all_differ as differ, param_fault as fault_of, space_fault as fault, names};
+ghost use Rattle.param_space.specs.Space.{names};
+ghost use Rattle.param_space.specs.Faults.{texts_differ as differ, param_fault as fault_of, params_fault as fault};
 
 use crate::lists::{Param, Part, SpaceFault, SpaceWhat};
 use plain_text::{Text, is_word};
@@ -44,7 +45,7 @@ fn all_words(texts: &[Text]) -> bool
 }
 
 /// Whether no two of the texts are equal.
-fn all_differ(texts: &[Text]) -> bool
+fn texts_differ(texts: &[Text]) -> bool
     ensures { result ≡ differ texts.now }
 {
     for (i, text) in texts.iter().enumerate() {
@@ -68,7 +69,7 @@ fn param_fault(earlier: &[Param], place: usize, param: &Param) -> Option<SpaceWh
         Some(SpaceWhat::DoubleName)
     } else if values.is_empty() {
         Some(SpaceWhat::NoValues)
-    } else if !all_differ(values) {
+    } else if !texts_differ(values) {
         Some(SpaceWhat::DoubleValue)
     } else if usize::from(param.default) >= values.len() {
         Some(SpaceWhat::BadDefault)
@@ -78,7 +79,7 @@ fn param_fault(earlier: &[Param], place: usize, param: &Param) -> Option<SpaceWh
 }
 
 /// The first fault of the parameters.
-pub fn space_fault(params: &[Param]) -> Option<SpaceFault>
+pub fn params_fault(params: &[Param]) -> Option<SpaceFault>
     ensures { result ≡ fault params.now }
 {
     if params.is_empty() {

@@ -1,64 +1,76 @@
 //! Spaces.
-ghost use Rattle.std.specs.Prelude.{◌≡◌, ◌<◌, ◌++◌, [], OnOk, OnErr, IfOk, IfErr, None, length};
-ghost use Rattle.param_space.specs.Space.{space_fault as fault, defaults, Belongs, IsCause, IsSpace};
+ghost use Rattle.std.specs.Prelude.{ℕ, ◌≡◌, ◌<◌, ◌≤◌, ◌++◌, true, false, slice_index_or, OnOk, OnErr, IfOk, IfErr, None, length};
+ghost use Rattle.param_space.specs.Space.{defaults, Belongs};
+ghost use Rattle.param_space.specs.Faults.{space_fault, IsCause, IsSpace};
 ghost use Rattle.param_space.specs.Configurations.{is_active as active, settled, is_canonical as canonical, is_allowed as allowed, IsConfig};
-ghost use Rattle.param_space.specs.Settings.{named_values, settings_text};
+ghost use Rattle.param_space.specs.Settings.{active_values, settings_text};
 
+use crate::activity::{activity, forbids_any};
+use crate::checking::checked_order;
 use crate::config::Config;
+use crate::copies::{copied_clauses, copied_conditions, copied_params};
 use crate::lists::{Condition, Forbidden, Param, SpaceFault};
-use crate::rules::space_fault;
+use crate::marks::Marks;
 use crate::settings::made_settings;
 use objective::Memory;
 use plain_text::Items;
+use std::alloc::Global;
 use std::marker::Model;
 
-/// A parameter space. Contracts see it as its three lists. Its type keeps that they
-/// break no rule; so far there are no conditions and no forbidden clauses.
+/// A parameter space. Contracts see it as its three lists. Its type keeps that they break
+/// no rule, and an order of the conditions in which a parent's own stand before those of
+/// its children.
 #[derive(Drop)]
 pub struct Space {
     params: Items<Param>,
     conditions: Items<Condition>,
     forbidden: Items<Forbidden>,
+    order: Items<u32>,
 }
 
 impl Model for Space {
-    ghost use Rattle.param_space.specs.Space.{Lists, IsSpace};
+    ghost use Rattle.param_space.specs.Space.{Lists};
+    ghost use Rattle.param_space.specs.Faults.{IsSpace};
+    ghost use Rattle.param_space.specs.Order.{IsOrder};
 
     ghost Value = { Lists };
 
     ghost view = { λ s. record { params = s.params; conditions = s.conditions; forbidden = s.forbidden } };
 
-    ghost invariant = { λ s. IsSpace (record { params = s.params; conditions = s.conditions; forbidden = s.forbidden }) };
+    ghost invariant = { λ s. IsSpace (record { params = s.params; conditions = s.conditions; forbidden = s.forbidden }) × IsOrder s.conditions s.order };
 }
 
 impl Space {
-    /// The space of these lists, or the first fault of the parameters. Takes no memory.
-    /// Conditions and forbidden clauses are not built yet: both lists have to be empty.
+    /// The space of these lists, or their first fault: of the parameters, the conditions and
+    /// the forbidden clauses, each in order; then the first condition whose child is its own
+    /// ancestor; then the first clause that forbids the defaults.
     pub fn new(
+        alloc: Global,
         params: Vec<Param>,
         conditions: Vec<Condition>,
         forbidden: Vec<Forbidden>,
     ) -> Result<Space, SpaceFault>
-        requires unconditional { conditions.items ≡ [] }
-        requires unrestricted { forbidden.items ≡ [] }
-        ensures ok { IfOk result (λ s. s ≡ record { params = params.items; conditions = []; forbidden = [] }) }
-        ensures sound { OnOk result (fault params.items ≡ None) }
-        ensures fault { IfErr result (λ e. IsCause e (fault params.items)) }
+        ensures ok { IfOk result (λ s. s ≡ record { params = params.items; conditions = conditions.items; forbidden = forbidden.items }) }
+        ensures sound { OnOk result (space_fault (record { params = params.items; conditions = conditions.items; forbidden = forbidden.items }) ≡ None) }
+        ensures fault { IfErr result (λ e. IsCause e (space_fault (record { params = params.items; conditions = conditions.items; forbidden = forbidden.items }))) }
     {
-        match space_fault(params.as_slice()) {
-            Some(cause) => Err(cause),
-            None => Ok(Space {
-                params: Items::new(params),
-                conditions: Items::new(conditions),
-                forbidden: Items::new(forbidden),
-            }),
-        }
+        let order = checked_order(
+            alloc,
+            params.as_slice(),
+            conditions.as_slice(),
+            forbidden.as_slice(),
+        )?;
+        Ok(Space {
+            params: Items::new(params),
+            conditions: Items::new(conditions),
+            forbidden: Items::new(forbidden),
+            order: Items::new(order),
+        })
     }
 
-    /// The parameters, in order. They break no rule.
+    /// The parameters, in order. The lists of a space break no rule.
     pub fn params(&self) -> &[Param]
         ensures value { result.now ≡ self.now.params }
-        ensures sound { fault self.now.params ≡ None }
         ensures space { IsSpace self.now }
     {
         self.params.as_slice()
@@ -67,7 +79,7 @@ impl Space {
     /// The conditions, in order.
     pub fn conditions(&self) -> &[Condition]
         ensures value { result.now ≡ self.now.conditions }
-        ensures unconditional { self.now.conditions ≡ [] }
+        ensures space { IsSpace self.now }
     {
         self.conditions.as_slice()
     }
@@ -75,41 +87,62 @@ impl Space {
     /// The forbidden clauses, in order.
     pub fn forbidden(&self) -> &[Forbidden]
         ensures value { result.now ≡ self.now.forbidden }
-        ensures unrestricted { self.now.forbidden ≡ [] }
+        ensures space { IsSpace self.now }
     {
         self.forbidden.as_slice()
     }
 
-    /// Whether the parameter, from 0, is active in the configuration. Takes no memory.
-    #[tactic(auto, using(crate::specs::Unconditional::all_active))]
+    /// Marks the active parameters of a configuration.
+    fn marks(&self, config: &Config) -> Marks
+        requires { Belongs self.now.params config.now }
+        ensures size { length result ≡ 256 }
+        ensures value { (p : ℕ) → p < 256 → slice_index_or result p false ≡ active self.now config.now p }
+        ensures space { IsSpace self.now }
+        ensures long { length config.now ≡ length self.now.params }
+        ensures few { length self.now.params ≤ 256 }
+    {
+        let conditions = self.conditions.as_slice();
+        activity(conditions, self.order.as_slice(), config.values())
+    }
+
+    /// Whether the parameter, from 0, is active in the configuration: each condition with it
+    /// as child has an active parent with a listed value. Takes no memory.
     pub fn is_active(&self, config: &Config, param: u16) -> bool
         requires belongs { Belongs self.now.params config.now }
         requires in_range { param < length self.now.params }
         ensures { result ≡ active self.now config.now param }
     {
-        // Where there are no conditions, each parameter is active.
-        self.conditions.as_slice().is_empty()
+        self.marks(config)[usize::from(param)]
     }
 
     /// Puts each inactive parameter at its default. Takes no memory.
-    #[tactic(auto, using(crate::specs::Unconditional::all_settled))]
     pub fn settle(&self, config: &mut Config)
         requires { Belongs self.now.params config.old }
         ensures value { config.new ≡ settled self.now config.old }
         ensures belongs { Belongs self.now.params config.new }
+        ensures sound { allowed self.now config.new ≡ true → IsConfig self.now config.new }
     {
-        // Where there are no conditions, no parameter is inactive.
-        let _ = &self.conditions;
+        let active = self.marks(config);
+        for (i, param) in self.params.as_slice().iter().enumerate() {
+            if !active[i] {
+                config.set(i as u16, param.default);
+            }
+        }
     }
 
     /// Whether each inactive parameter stands at its default. Takes no memory.
-    #[tactic(auto, using(crate::specs::Unconditional::all_canonical))]
     pub fn is_canonical(&self, config: &Config) -> bool
         requires { Belongs self.now.params config.now }
         ensures { result ≡ canonical self.now config.now }
     {
-        // Where there are no conditions, no parameter is inactive.
-        self.conditions.as_slice().is_empty()
+        let active = self.marks(config);
+        let values = config.values();
+        for (i, param) in self.params.as_slice().iter().enumerate() {
+            if !active[i] && values[i] != param.default {
+                return false;
+            }
+        }
+        true
     }
 
     /// Whether no forbidden clause has all its settings in the configuration; a setting
@@ -118,27 +151,24 @@ impl Space {
         requires { Belongs self.now.params config.now }
         ensures { result ≡ allowed self.now config.now }
     {
-        // Where there are no clauses, each configuration is allowed.
-        self.forbidden.as_slice().is_empty()
+        let active = self.marks(config);
+        !forbids_any(self.forbidden.as_slice(), config.values(), &active)
     }
 
     /// The same space.
     pub fn copy(&self) -> Result<Space, Memory>
         ensures { IfOk result (λ s. s ≡ self.now) }
     {
-        let alloc = *self.params.allocator();
-        let mut params = Vec::new(alloc);
-        for param in self.params.as_slice() {
-            params.push(param.copy()?)?;
-        }
+        let order = self.order.as_slice();
         Ok(Space {
-            params: Items::new(params),
-            conditions: Items::new(Vec::new(alloc)),
-            forbidden: Items::new(Vec::new(alloc)),
+            params: copied_params(&self.params)?,
+            conditions: copied_conditions(&self.conditions)?,
+            forbidden: copied_clauses(&self.forbidden)?,
+            order: Items::new(order.to_vec(*self.order.allocator())?),
         })
     }
 
-    /// The configuration of the defaults.
+    /// The configuration of the defaults, which is canonical and allowed.
     pub fn default_config(&self) -> Result<Config, Memory>
         ensures value { IfOk result (λ c. c ≡ defaults self.now.params) }
         ensures belongs { IfOk result (λ c. Belongs self.now.params c) }
@@ -150,15 +180,16 @@ impl Space {
         Ok(Config::new(values))
     }
 
-    /// Appends `name=value` for each parameter in order, parted by one space. Where
+    /// Appends `name=value` for each active parameter in order, parted by one space. Where
     /// there is no memory left, nothing is appended.
     pub fn push_settings(&self, config: &Config, out: &mut Vec<u8>) -> Result<(), Memory>
         requires { Belongs self.now.params config.now }
-        ensures ok { OnOk result (out.new.items ≡ out.old.items ++ settings_text (named_values self.now.params config.now)) }
+        ensures ok { OnOk result (out.new.items ≡ out.old.items ++ settings_text (active_values self.now config.now)) }
         ensures err { OnErr result (out.new.items ≡ out.old.items) }
     {
         let alloc = *self.params.allocator();
-        let text = made_settings(alloc, self.params.as_slice(), config.values())?;
+        let active = self.marks(config);
+        let text = made_settings(alloc, self.params.as_slice(), config.values(), &active)?;
         out.extend_from_slice(text.as_slice())?;
         Ok(())
     }

@@ -1,33 +1,38 @@
-use Rattle.std.proofs.Common.{◌∙◌, ◌++◌, ap, take, arith, take_all}
-use Rattle.std.specs.Prelude.{codes}
-use Rattle.param_space.specs.Settings.{named_values, setting_text, settings_text}
+use Rattle.std.proofs.Common.{◌∙◌, arith, sym, ap, get_or}
+use Rattle.param_space.specs.Settings.{settings_text}
 use Rattle.param_space.specs.Belonging.{length-Belongs, read_value_in_range}
-use Rattle.param_space.proofs.Texts.{text_first, text_later}
+use Rattle.param_space.proofs.Texts.{unmarked_more, one_read, all_read}
 use Rattle.param_space.proofs.settings.made_settings.Goals as goal
-use Rattle.param_space.proofs.settings.made_settings.Goals.{then-i-gt0+in_ok-push, else-i-gt0}
+use Rattle.param_space.proofs.settings.made_settings.Goals.{then-active-i+in_ok-push_setting, else-active-i}
 
 pub bounds-values-i : goal.bounds-values-i
-bounds-values-i c = omega (arith, length-Belongs c.args.params.now c.args.values.now c.requires)
+bounds-values-i c = omega (arith, length-Belongs c.args.params.now c.args.values.now c.requires.belongs, c.loop-i-test.true)
 
-pub bounds-as_slice-values : goal.bounds-as_slice-values
-bounds-as_slice-values c = read_value_in_range _ _ _ _ _ c.requires c.loop-i-test.true c.index-params-i.is c.as_slice.ensures
+pub bounds-as_slice-from : goal.bounds-as_slice-from
+bounds-as_slice-from c =
+    let below = read_value_in_range c.args.params.now c.args.values.now c.loop-i.i c.index-params-i.result c.as_slice.result.now c.requires.belongs c.loop-i-test.true c.index-params-i.is c.as_slice.ensures in
+    omega (arith, below, c.from.ensures)
 
 pub loop-i-preserved : goal.loop-i-preserved
 loop-i-preserved c =
-    elim c.if-i-gt0.branch [
-      | then-i-gt0+in_ok-push w ↦
-          let spaced = ap (λ v. v.items) w.out-is ∙ w.in_ok-push.ensures.items ∙ ap (λ t. t ++ codes " ") c.loop-i.invariant in
-          let made = c.in_ok-push_setting.ensures ∙ ap (λ t. t ++ setting_text (c.as_str.result.now, c.as_str-in-loop-i.result.now)) spaced in
-          text_later _ _ _ _ _ _ _ _ _ c.requires c.loop-i-test.true c.index-params-i.is c.as_slice.ensures c.index-as_slice-values.is c.as_str.ensures c.as_str-in-loop-i.ensures w.if-i-gt0.true made
-      | else-i-gt0 w ↦
-          let same = ap (λ v. v.items) w.out-is ∙ c.loop-i.invariant in
-          let made = c.in_ok-push_setting.ensures ∙ ap (λ t. t ++ setting_text (c.as_str.result.now, c.as_str-in-loop-i.result.now)) same in
-          text_first _ _ _ _ _ _ _ _ _ c.requires c.loop-i-test.true c.index-params-i.is c.as_slice.ensures c.index-as_slice-values.is c.as_str.ensures c.as_str-in-loop-i.ensures w.if-i-gt0.false made
+    elim c.if-active-i.branch [
+      | then-active-i+in_ok-push_setting w ↦
+          ap (λ v. v.items) w.out-is
+          ∙ one_read c.args.active.now c.args.params.now c.args.values.now c.loop-i.i c.index-params-i.result w.as_slice.result.now w.index-as_slice-from.result w.as_str.result.now w.as_str-then-active-i.result.now c.loop-i.out.items w.push_setting.new.out.items (record {
+            belongs = c.requires.belongs;
+            within = c.loop-i-test.true;
+            is = c.index-params-i.is;
+            texts-are = w.as_slice.ensures;
+            read = w.index-as_slice-from.is ∙ ap (λ k. get_or w.as_slice.result.now k w.index-as_slice-from.result) w.from.ensures;
+            name-is = w.as_str.ensures;
+            value-is = w.as_str-then-active-i.ensures;
+            so_far = c.loop-i.invariant;
+            marked = w.if-active-i.true;
+          }) w.in_ok-push_setting.ensures
+      | else-active-i w ↦
+          ap (λ v. v.items) w.out-is ∙ c.loop-i.invariant
+          ∙ ap settings_text (sym (unmarked_more c.args.active.now c.args.params.now c.args.values.now c.loop-i.i c.index-params-i.result c.requires.belongs c.loop-i-test.true w.if-active-i.false))
     ]
 
 pub returns : goal.returns
-returns c =
-    let long = length-Belongs c.args.params.now c.args.values.now c.requires in
-    let params = take_all c.loop-i.i c.args.params.now c.loop-i-test.false in
-    let values = take_all c.loop-i.i c.args.values.now (omega arith) in
-    c.loop-i.invariant ∙ ap (λ ps. settings_text (named_values ps (take c.loop-i.i c.args.values.now))) params ∙ ap (λ vs. settings_text (named_values c.args.params.now vs)) values
+returns c = all_read c.args.active.now c.args.params.now c.args.values.now c.loop-i.i c.loop-i.out.items c.requires.belongs c.loop-i-test.false c.loop-i.invariant

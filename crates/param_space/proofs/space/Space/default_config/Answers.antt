@@ -1,8 +1,9 @@
 use Rattle.std.proofs.Common.{◌≡◌, rules, sym, subst}
-use Rattle.param_space.specs.Space.{IsSpace, defaults, Belongs}
+use Rattle.param_space.specs.Space.{defaults, Belongs}
+use Rattle.param_space.specs.Faults.{IsSpace}
 use Rattle.param_space.specs.Configurations.{IsConfig}
 use Rattle.param_space.specs.Belonging.{Belongs-defaults}
-use Rattle.param_space.specs.Unconditional.{default_is_config}
+use Rattle.param_space.specs.Soundness.{default_is_config}
 use Rattle.param_space.proofs.space.Space.default_config.Goals as goal
 
 pub returns-clause-belongs : goal.returns-clause-belongs
@@ -13,4 +14,4 @@ returns-clause-belongs c =
 pub returns-clause-sound : goal.returns-clause-sound
 returns-clause-sound c =
     let value : c.new.result ≡ defaults c.args.self.now.params = search rules in
-    subst (IsConfig c.args.self.now) (sym value) (default_is_config c.args.self.now (subst IsSpace c.self.view_is c.self.invariant))
+    subst (IsConfig c.args.self.now) (sym value) (default_is_config c.args.self.now (subst IsSpace c.self.view_is c.self.invariant.0))

@@ -1,0 +1,9 @@
+use Rattle.std.proofs.Common.{refl}
+use Rattle.param_space.proofs.Marking.{unmarked}
+use Rattle.param_space.proofs.ancestry.next_generation.Goals as goal
+
+pub loop-condition-init : goal.loop-condition-init
+loop-condition-init c = record {
+  size = refl;
+  value = λ a lt. unmarked 256 a;
+}

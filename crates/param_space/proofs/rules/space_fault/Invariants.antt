@@ -1,7 +1,0 @@
-use Rattle.std.proofs.Common.{◌≡◌, ◌≤◌, [], take, drop}
-use Rattle.param_space.specs.Space.{params_fault, names}
-use Rattle.param_space.proofs.rules.space_fault.Given as goal
-
--- the first fault is that of the later parameters
-abbrev pub invariant-loop-i : goal.invariant-loop-i
-invariant-loop-i l = (l.i ≤ 256) × (params_fault [] 0 l.params ≡ params_fault (names (take l.i l.params)) l.i (drop l.i l.params))

@@ -1,0 +1,95 @@
+//! Which parameters are active in a configuration, and what it forbids.
+ghost use Rattle.std.specs.Prelude.{ℕ, suc, All, ◌≡◌, ◌==◌, ◌<◌, ◌≤◌, ◌&&◌, not, false, [], ◌∷◌, length, slice_index_or};
+ghost use Rattle.std.specs.List.{list_any};
+ghost use Rattle.param_space.specs.Configurations.{is_active_within};
+ghost use Rattle.param_space.specs.Acyclic.{IsNamed, IsAcyclic};
+ghost use Rattle.param_space.specs.Faults.{first_in, first_broken};
+ghost use Rattle.param_space.specs.declared.lists.SpaceWhat.TheVariants.{DefaultForbidden};
+ghost use Rattle.param_space.specs.Marks.{is_marked_by, ArePicksNamed};
+ghost use Rattle.param_space.specs.Order.{IsOrder};
+
+use crate::lists::{Condition, Forbidden, Part, SpaceFault, SpaceWhat};
+use crate::marks::{MOST_PARAMS, Marks};
+
+/// Whether the condition's parent is active and has a listed value.
+fn is_met(condition: &Condition, values: &[u16], active: &Marks) -> bool
+    requires value { condition.now.parent < length values.now }
+    requires mark { condition.now.parent < length active.now }
+    ensures { result ≡ list_any (λ v. slice_index_or values.now condition.now.parent 0 == v) condition.now.values && slice_index_or active.now condition.now.parent false }
+{
+    let parent = usize::from(condition.parent);
+    condition.values.as_slice().contains(&values[parent]) && active[parent]
+}
+
+/// Marks each active parameter of the configuration with these values. Goes through the
+/// conditions once; the order sees to it that a parent's mark is right before it is used.
+pub fn activity(conditions: &[Condition], order: &[u32], values: &[u16]) -> Marks
+    requires order { IsOrder conditions.now order.now }
+    requires named { All (IsNamed (length values.now)) conditions.now }
+    requires acyclic { IsAcyclic (length values.now) conditions.now }
+    requires few { length values.now ≤ 256 }
+    ensures size { length result ≡ 256 }
+    ensures value { (p : ℕ) → p < 256 → slice_index_or result p false ≡ is_active_within (suc (length values.now)) conditions.now values.now p }
+{
+    let mut active = [true; MOST_PARAMS];
+    for i in order {
+        let condition = &conditions[*i as usize];
+        if !is_met(condition, values, &active) {
+            active[usize::from(condition.child)] = false;
+        }
+    }
+    active
+}
+
+/// Whether each of the clause's picks is of an active parameter with this value.
+fn forbids(clause: &Forbidden, values: &[u16], active: &Marks) -> bool
+    requires named { ArePicksNamed (length values.now) clause.now }
+    requires sizes { length values.now ≤ length active.now }
+    ensures { result ≡ is_marked_by active.now values.now clause.now }
+{
+    for pick in clause.picks.as_slice() {
+        let param = usize::from(pick.param);
+        if !active[param] || values[param] != pick.value {
+            return false;
+        }
+    }
+    true
+}
+
+/// Whether some clause forbids a configuration with these values and marks.
+pub fn forbids_any(forbidden: &[Forbidden], values: &[u16], active: &Marks) -> bool
+    requires named { All (ArePicksNamed (length values.now)) forbidden.now }
+    requires sizes { length values.now ≤ length active.now }
+    ensures { result ≡ list_any (is_marked_by active.now values.now) forbidden.now }
+{
+    for clause in forbidden {
+        if forbids(clause, values, active) {
+            return true;
+        }
+    }
+    false
+}
+
+/// The first clause that forbids the configuration of the defaults, which has these values
+/// and marks.
+pub fn forbidding_fault(
+    forbidden: &[Forbidden],
+    values: &[u16],
+    active: &Marks,
+) -> Option<SpaceFault>
+    requires few { length forbidden.now ≤ 4096 }
+    requires named { All (ArePicksNamed (length values.now)) forbidden.now }
+    requires sizes { length values.now ≤ length active.now }
+    ensures { result ≡ first_in Part.Forbidden (λ _ f. first_broken ((not (is_marked_by active.now values.now f), DefaultForbidden) ∷ [])) 0 forbidden.now }
+{
+    for (i, clause) in forbidden.iter().enumerate() {
+        if forbids(clause, values, active) {
+            return Some(SpaceFault::At {
+                part: Part::Forbidden,
+                place: i as u32,
+                what: SpaceWhat::DefaultForbidden,
+            });
+        }
+    }
+    None
+}
