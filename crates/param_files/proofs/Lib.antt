@@ -9,3 +9,4 @@ pub mod Readings
 pub mod KeptLines
 pub mod Commas
 pub mod Printed
+pub mod Wholes

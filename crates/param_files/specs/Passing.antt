@@ -5,7 +5,7 @@ use Rattle.std.proofs.Common.{ap, sym, ◌∙◌, subst, arith, cond}
 use Rattle.std.proofs.lemmas.Bool.{and_from, and_parts, ltb-true, leb-true, both_ways}
 use Rattle.std.proofs.lemmas.Bool.Decides.{nat_tests}
 use Rattle.std.proofs.lemmas.List.{append_assoc, append-nil, length-append, map-append}
-use Rattle.std.proofs.lemmas.List.Elements.{All-nil, All-head, All-tail, All-push, filter-append}
+use Rattle.std.proofs.lemmas.List.Elements.{All-nil, All-cons, All-head, All-tail, All-push, filter-append}
 use Rattle.plain_text.specs.Words.{is_word}
 use Rattle.param_space.specs.declared.lists.Param.{Param}
 use Rattle.param_space.specs.declared.lists.Condition as condition
@@ -23,6 +23,7 @@ use Rattle.param_files.specs.declared.statements.NamedPick.{NamedPick}
 use Rattle.param_files.specs.declared.statements.Statement.{Statement}
 use Rattle.param_files.specs.declared.statements.Statement.TheVariants.{Nothing, Parameter, Condition, Clause}
 use Rattle.param_files.specs.Reading.{◌>>=◌, or_fault, unless, of_space, in_line, numbered_param, params_in, is_condition, is_clause, parameter_rules, condition_rules, clause_rules, fault_after, statement_fault, accepted, line_stated, lines_read, all_some, param_number, value_number, condition_numbered, pick_of, pick_numbered, clause_numbered, Numbered, with_condition, with_clause, all_numbered, lists_of, some_params}
+use Rattle.param_files.specs.Keeping.{AreFew}
 use Rattle.param_files.specs.Formed.{IsFormed, line_formed}
 use Rattle.param_files.specs.Apart.{length-all_some, list_all-all_some, map-all_some, values_apart, picks_apart, param_below, value_below}
 
@@ -113,6 +114,16 @@ params_more (q ∷ qs) p earlier place h last =
     let moved : param_fault ((earlier ++ q.name ∷ []) ++ map (λ r. r.name) qs) (place + 1 + length qs) p ≡ None =
     ap (λ ns. param_fault ns (place + 1 + length qs) p) names ∙ ap (λ n. param_fault (earlier ++ q.name ∷ map (λ r. r.name) qs) n p) (omega arith) ∙ last in
     rw (none.0, params_more qs p (earlier ++ q.name ∷ []) (place + 1) none.1 moved) refl
+
+-- parameters from a place on, without a fault, are few
+few_from : (params : List Param) (earlier : List (List ℕ)) (place : ℕ) → later_params_fault earlier place params ≡ None → place ≤ 256 → (place + length params ≤ 256) × All (λ p. length p.values ≤ 256) params
+few_from [] earlier place h le = (omega arith, All-nil (λ p. length p.values ≤ 256))
+few_from (p ∷ later) earlier place h le =
+    let none = none_later place (param_fault earlier place p) (later_params_fault (earlier ++ p.name ∷ []) (place + 1) later) h in
+    let limits = and_parts (nat_lt place 256) (nat_le (length p.values) 256) (rules_hold (space_param_rules earlier place p) none.0).0 in
+    let below : place < 256 = ltb-true place 256 limits.0 in
+    let more = few_from later (earlier ++ p.name ∷ []) (place + 1) none.1 (omega arith) in
+    (omega (arith, more.0), All-cons (λ q. length q.values ≤ 256) p later (leb-true (length p.values) 256 limits.1) more.1)
 
 params_in-append : (xs ys : List Statement) → params_in (xs ++ ys) ≡ params_in xs ++ params_in ys
 unfolding params_in
@@ -355,6 +366,10 @@ numbers_pass params ((line, Clause picks) ∷ later) numbered m n good a b h =
 module _ (lines : List (ℕ × List ℕ)) (stated : List (ℕ × Statement)) (read : lines_read [] lines ≡ Ok stated) where
   passed : IsPassed stated
   passed = lines_pass lines [] stated none_passed read
+
+  -- there are few parameters, each with few values
+  pub lines_few : AreFew (params_in (map (λ s. s.1) stated))
+  lines_few = let few = few_from (params_in (map (λ s. s.1) stated)) [] 0 passed.params (omega arith) in record { count = omega (arith, few.0); values = few.1 }
 
   module _ (params : List Param) (some : some_params (params_in (map (λ s. s.1) stated)) ≡ Ok params) where
     -- the parameters break no rule of a space

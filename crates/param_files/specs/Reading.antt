@@ -215,17 +215,17 @@ lists_of params numbered = record {
   forbidden = numbered.clauses;
 }
 
--- the line of an element of the lists
-abbrev pub line_of : Numbered → Part → ℕ → ℕ
-line_of numbered part.Param place = 0
-line_of numbered part.Condition place = slice_index numbered.condition_lines place
-line_of numbered part.Forbidden place = slice_index numbered.clause_lines place
-line_of numbered part.Whole place = 0
+-- the line of an element of the lists, where these are the lines of the conditions and of the clauses; 0 for one of another list
+abbrev pub line_of : List ℕ → List ℕ → Part → ℕ → ℕ
+line_of condition_lines clause_lines part.Param place = 0
+line_of condition_lines clause_lines part.Condition place = slice_index condition_lines place
+line_of condition_lines clause_lines part.Forbidden place = slice_index clause_lines place
+line_of condition_lines clause_lines part.Whole place = 0
 
 -- lists without a fault as a whole, or the fault with its line
 abbrev pub without_fault : Numbered → Lists → Option SpaceFault → Result Lists ParamFault
 without_fault numbered lists None = Ok lists
-without_fault numbered lists (Some (space_fault.At part place what)) = Err (At (line_of numbered part place) (Space what))
+without_fault numbered lists (Some (space_fault.At part place what)) = Err (At (line_of numbered.condition_lines numbered.clause_lines part place) (Space what))
 without_fault numbered lists (Some space_fault.Memory) = Err Memory
 
 -- no cycle, and no clause that forbids the defaults

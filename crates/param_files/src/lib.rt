@@ -18,3 +18,4 @@ mod statements;
 
 pub use faults::{ParamFault, ParamWhat};
 pub use printer::print_params;
+pub use reader::read_params;

@@ -77,17 +77,23 @@ impl Numbered {
             }
         }
     }
+}
 
-    /// The line of an element of the lists; 0 for one of another list.
-    pub fn line_of(&self, part: Part, place: u32) -> u32
-        ensures { result ≡ line_in self.now part place }
-    {
-        match part {
-            Part::Param => 0,
-            Part::Condition => line_at(self.condition_lines.as_slice(), place),
-            Part::Forbidden => line_at(self.clause_lines.as_slice(), place),
-            Part::Whole => 0,
-        }
+/// The line of an element of the lists, by the lines of the conditions and of the clauses;
+/// 0 for one of another list.
+pub(crate) fn line_of(
+    condition_lines: &[u32],
+    clause_lines: &[u32],
+    part: Part,
+    place: u32,
+) -> u32
+    ensures { result ≡ line_in condition_lines.now clause_lines.now part place }
+{
+    match part {
+        Part::Param => 0,
+        Part::Condition => line_at(condition_lines, place),
+        Part::Forbidden => line_at(clause_lines, place),
+        Part::Whole => 0,
     }
 }
 
