@@ -10,7 +10,7 @@ use Rattle.plain_text.specs.Tokens.{token_texts, tokens, tokens_before, begins, 
 use Rattle.param_space.specs.Ancestors.{is_ancestor_within}
 use Rattle.param_space.specs.Configurations.{is_active_within}
 use Rattle.param_files.specs.Grammar.{statement_of, clause_of, condition_of, parameter_of, listed, picked}
-use Rattle.param_files.specs.Reading.{params_read, lines_read, line_read, statement_fault, params_in, space_stated, all_numbered, condition_numbered, clause_numbered, pick_numbered}
+use Rattle.param_files.specs.Reading.{params_read, lines_read, line_stated, fault_after, params_in, space_stated, all_numbered, condition_numbered, clause_numbered, pick_numbered}
 use Rattle.param_files.specs.Printing.{printed, param_line, condition_line}
 
 -- `x {a, b} [a]`, `y {1, 2} [1]` and `y | x in {a}`
@@ -31,19 +31,19 @@ unfolding param_line condition_line
 conditional_is_printed = refl
 
 pub conditional_is_read : params_read conditional_text ≡ Ok conditional
-unfolding params_read lines_read line_read statement_fault params_in space_stated all_numbered condition_numbered clause_numbered pick_numbered statement_of clause_of condition_of parameter_of listed picked token_texts tokens tokens_before begins token_end numbered_lines lines_of is_utf8 chars is_ancestor_within is_active_within lib.Utf8.encode
+unfolding params_read lines_read line_stated fault_after params_in space_stated all_numbered condition_numbered clause_numbered pick_numbered statement_of clause_of condition_of parameter_of listed picked token_texts tokens tokens_before begins token_end numbered_lines lines_of is_utf8 chars is_ancestor_within is_active_within lib.Utf8.encode
 conditional_is_read = refl
 
 -- a clause that forbids the defaults
 pub forbidden_default : params_read (codes "x {a, b} [a]\ny {1, 2} [1]\n{x=a, y=1}\n") ≡ Err (At 3 (Space what.DefaultForbidden))
-unfolding params_read lines_read line_read statement_fault params_in space_stated all_numbered condition_numbered clause_numbered pick_numbered statement_of clause_of condition_of parameter_of listed picked token_texts tokens tokens_before begins token_end numbered_lines lines_of is_utf8 chars is_ancestor_within is_active_within lib.Utf8.encode
+unfolding params_read lines_read line_stated fault_after params_in space_stated all_numbered condition_numbered clause_numbered pick_numbered statement_of clause_of condition_of parameter_of listed picked token_texts tokens tokens_before begins token_end numbered_lines lines_of is_utf8 chars is_ancestor_within is_active_within lib.Utf8.encode
 forbidden_default = refl
 
 -- two parameters that depend on each other
 pub two_in_a_cycle : params_read (codes "x {a, b} [a]\ny {1, 2} [1]\nx | y in {1}\ny | x in {a}\n") ≡ Err (At 3 (Space what.Cycle))
-unfolding params_read lines_read line_read statement_fault params_in space_stated all_numbered condition_numbered clause_numbered pick_numbered statement_of clause_of condition_of parameter_of listed picked token_texts tokens tokens_before begins token_end numbered_lines lines_of is_utf8 chars is_ancestor_within is_active_within lib.Utf8.encode
+unfolding params_read lines_read line_stated fault_after params_in space_stated all_numbered condition_numbered clause_numbered pick_numbered statement_of clause_of condition_of parameter_of listed picked token_texts tokens tokens_before begins token_end numbered_lines lines_of is_utf8 chars is_ancestor_within is_active_within lib.Utf8.encode
 two_in_a_cycle = refl
 
 pub empty_file : params_read [] ≡ Err (At 0 (Space what.NoParameters))
-unfolding params_read lines_read line_read statement_fault params_in space_stated all_numbered condition_numbered clause_numbered pick_numbered statement_of clause_of condition_of parameter_of listed picked token_texts tokens tokens_before begins token_end numbered_lines lines_of is_utf8 chars is_ancestor_within is_active_within lib.Utf8.encode
+unfolding params_read lines_read line_stated fault_after params_in space_stated all_numbered condition_numbered clause_numbered pick_numbered statement_of clause_of condition_of parameter_of listed picked token_texts tokens tokens_before begins token_end numbered_lines lines_of is_utf8 chars is_ancestor_within is_active_within lib.Utf8.encode
 empty_file = refl

@@ -6,10 +6,14 @@ use Rattle.param_files.specs.declared.statements.NamedPick.{NamedPick}
 use Rattle.param_files.specs.declared.statements.Statement.{Statement}
 use Rattle.param_files.specs.declared.statements.Statement.TheVariants.{Nothing, Parameter, Condition, Clause}
 
+-- a heading, in any ASCII case
+abbrev pub is_heading : List ℕ → Bool
+is_heading t = str_eq_ignore_ascii_case t (codes "Conditionals:") || str_eq_ignore_ascii_case t (codes "Forbidden:")
+
 -- no tokens, or a heading
 abbrev pub is_nothing : List (List ℕ) → Bool
 is_nothing [] = true
-is_nothing (t ∷ []) = str_eq_ignore_ascii_case t (codes "Conditionals:") || str_eq_ignore_ascii_case t (codes "Forbidden:")
+is_nothing (t ∷ []) = is_heading t
 is_nothing (t ∷ u ∷ later) = false
 
 -- one or more values parted by commas, a closing brace, and what follows it
@@ -22,6 +26,10 @@ listed (value ∷ mark ∷ rest) =
     else if bytes_eq mark (codes ",") then option_map (λ more. (value ∷ more.0, more.1)) (listed rest)
     else None
 
+-- `name=value`
+abbrev pub is_pick : List ℕ → List ℕ → List ℕ → Bool
+is_pick name equals value = is_word name && (bytes_eq equals (codes "=") && is_word value)
+
 -- one or more picks parted by commas, a closing brace, and what follows it
 unfoldable pub picked : List (List ℕ) → Option (List NamedPick × List (List ℕ))
 picked [] = None
@@ -29,7 +37,7 @@ picked (name ∷ []) = None
 picked (name ∷ equals ∷ []) = None
 picked (name ∷ equals ∷ value ∷ []) = None
 picked (name ∷ equals ∷ value ∷ mark ∷ rest) =
-    if not (is_word name && (bytes_eq equals (codes "=") && is_word value)) then None
+    if not (is_pick name equals value) then None
     else if bytes_eq mark (codes "}") then Some (record { name = name; value = value } ∷ [], rest)
     else if bytes_eq mark (codes ",") then option_map (λ more. (record { name = name; value = value } ∷ more.0, more.1)) (picked rest)
     else None
@@ -45,6 +53,11 @@ unfoldable pub clause_of : List (List ℕ) → Option Statement
 clause_of [] = None
 clause_of (brace ∷ rest) = if bytes_eq brace (codes "{") then ended_clause (picked rest) else None
 
+-- `child | parent in {`
+abbrev pub is_condition_head : List ℕ → List ℕ → List ℕ → List ℕ → List ℕ → Bool
+is_condition_head child bar parent word brace =
+    (is_word child && bytes_eq bar (codes "|")) && (is_word parent && (bytes_eq word (codes "in") && bytes_eq brace (codes "{")))
+
 -- a condition ends at its closing brace
 abbrev pub ended_condition : List ℕ → List ℕ → Option (List (List ℕ) × List (List ℕ)) → Option Statement
 ended_condition child parent None = None
@@ -54,28 +67,29 @@ ended_condition child parent (Some (values, t ∷ later)) = None
 -- `child | parent in {v1, v2}`
 unfoldable pub condition_of : List (List ℕ) → Option Statement
 condition_of (child ∷ bar ∷ parent ∷ word ∷ brace ∷ rest) =
-    if (is_word child && bytes_eq bar (codes "|")) && (is_word parent && (bytes_eq word (codes "in") && bytes_eq brace (codes "{")))
-    then ended_condition child parent (listed rest)
-    else None
+    if is_condition_head child bar parent word brace then ended_condition child parent (listed rest) else None
 condition_of (child ∷ bar ∷ parent ∷ word ∷ []) = None
 condition_of (child ∷ bar ∷ parent ∷ []) = None
 condition_of (child ∷ bar ∷ []) = None
 condition_of (child ∷ []) = None
 condition_of [] = None
 
--- a parameter ends with its default between brackets
-abbrev pub ended_parameter : List ℕ → List (List ℕ) → List (List ℕ) → Option Statement
-ended_parameter name values [] = None
-ended_parameter name values (left ∷ []) = None
-ended_parameter name values (left ∷ default ∷ []) = None
-ended_parameter name values (left ∷ default ∷ right ∷ []) =
-    if bytes_eq left (codes "[") && (is_word default && bytes_eq right (codes "]")) then Some (Parameter name values default) else None
-ended_parameter name values (left ∷ default ∷ right ∷ t ∷ later) = None
+-- `[default]`
+abbrev pub is_default : List ℕ → List ℕ → List ℕ → Bool
+is_default left default right = bytes_eq left (codes "[") && (is_word default && bytes_eq right (codes "]"))
 
--- the values of a parameter, and its default
+-- the default in `[default]`
+abbrev pub default_of : List (List ℕ) → Option (List ℕ)
+default_of [] = None
+default_of (left ∷ []) = None
+default_of (left ∷ default ∷ []) = None
+default_of (left ∷ default ∷ right ∷ []) = if is_default left default right then Some default else None
+default_of (left ∷ default ∷ right ∷ t ∷ later) = None
+
+-- the values of a parameter, and its default, which ends it
 abbrev pub listed_parameter : List ℕ → Option (List (List ℕ) × List (List ℕ)) → Option Statement
 listed_parameter name None = None
-listed_parameter name (Some more) = ended_parameter name more.0 more.1
+listed_parameter name (Some more) = option_map (Parameter name more.0) (default_of more.1)
 
 -- `name {v1, v2} [default]`
 unfoldable pub parameter_of : List (List ℕ) → Option Statement

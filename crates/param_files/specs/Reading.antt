@@ -1,5 +1,5 @@
 -- The space that a parameter file states, or the file's first fault with its line.
-use Rattle.std.specs.Prelude.{ℕ, ◌+◌, ◌&&◌, Bool, true, false, not, List, [], ◌∷◌, ◌++◌, Option, Some, None, Result, Ok, Err, nat_lt, nat_le, length, map, slice_index, slice_index_or, option_map, position, bytes_eq, if◌then◌else◌}
+use Rattle.std.specs.Prelude.{ℕ, ◌≡◌, ◌&&◌, Bool, true, false, not, List, [], ◌∷◌, ◌++◌, Option, Some, None, Result, Ok, Err, nat_lt, nat_le, length, map, slice_index, slice_index_or, option_map, position, bytes_eq, if◌then◌else◌}
 use Rattle.std.specs.List.{list_any, filter, position_or_len}
 use Rattle.std.specs.Str.{is_utf8}
 use Rattle.plain_text.specs.Lines.{numbered_lines}
@@ -79,32 +79,51 @@ is_clause (Parameter name values default) = false
 is_clause (Condition child parent values) = false
 is_clause (Clause picks) = true
 
--- the first rule of a line that a statement breaks, after these statements
-unfoldable pub statement_fault : List Statement → Statement → Option SpaceWhat
-statement_fault earlier Nothing = None
-statement_fault earlier (Parameter name values default) = first_broken (
-    (nat_lt (length (params_in earlier)) 256 && nat_le (length values) 256, TooMany)
-    ∷ (not (list_any (λ p. bytes_eq name p.name) (params_in earlier)), DoubleName)
+-- the rules of a line that a parameter keeps, after these
+abbrev pub parameter_rules : List Param → List ℕ → List (List ℕ) → List ℕ → List (Bool × SpaceWhat)
+parameter_rules params name values default =
+    (nat_lt (length params) 256 && nat_le (length values) 256, TooMany)
+    ∷ (not (list_any (λ p. bytes_eq name p.name) params), DoubleName)
     ∷ (texts_differ values, DoubleValue)
     ∷ (list_any (bytes_eq default) values, BadDefault)
-    ∷ [])
-statement_fault earlier (Condition child parent values) = first_broken (
-    (nat_lt (length (filter is_condition earlier)) 1024, TooMany)
+    ∷ []
+
+-- the rules of a line that a condition with these values keeps, after so many
+abbrev pub condition_rules : ℕ → List (List ℕ) → List (Bool × SpaceWhat)
+condition_rules conditions values =
+    (nat_lt conditions 1024, TooMany)
     ∷ (texts_differ values, DoubleValue)
-    ∷ [])
-statement_fault earlier (Clause picks) = first_broken (
-    (nat_lt (length (filter is_clause earlier)) 4096 && nat_le (length picks) 16, TooMany)
+    ∷ []
+
+-- the rules of a line that a clause keeps, after so many
+abbrev pub clause_rules : ℕ → List NamedPick → List (Bool × SpaceWhat)
+clause_rules clauses picks =
+    (nat_lt clauses 4096 && nat_le (length picks) 16, TooMany)
     ∷ (texts_differ (map (λ k. k.name) picks), DoubleName)
-    ∷ [])
+    ∷ []
+
+-- the first rule of a line that a statement breaks, after these parameters and so many conditions and clauses
+unfoldable pub fault_after : List Param → ℕ → ℕ → Statement → Option SpaceWhat
+fault_after params conditions clauses Nothing = None
+fault_after params conditions clauses (Parameter name values default) = first_broken (parameter_rules params name values default)
+fault_after params conditions clauses (Condition child parent values) = first_broken (condition_rules conditions values)
+fault_after params conditions clauses (Clause picks) = first_broken (clause_rules clauses picks)
+
+-- the first rule of a line that a statement breaks, after these statements
+abbrev pub statement_fault : List Statement → Statement → Option SpaceWhat
+statement_fault earlier s = fault_after (params_in earlier) (length (filter is_condition earlier)) (length (filter is_clause earlier)) s
 
 -- a statement that keeps the rules of a line, after these statements
 abbrev pub accepted : List Statement → Statement → Result Statement ParamWhat
 accepted earlier s = unless (statement_fault earlier s) s
 
+-- what a line states, or that it is no text or has none of the forms
+unfoldable pub line_stated : List ℕ → Result Statement ParamWhat
+line_stated line = if is_utf8 line then or_fault Form (statement_of (token_texts line)) else Err NotText
+
 -- what a line states, after these statements, or its first fault
-unfoldable pub line_read : List Statement → List ℕ → Result Statement ParamWhat
-line_read earlier line =
-    if is_utf8 line then or_fault Form (statement_of (token_texts line)) >>= accepted earlier else Err NotText
+abbrev pub line_read : List Statement → List ℕ → Result Statement ParamWhat
+line_read earlier line = line_stated line >>= accepted earlier
 
 -- what numbered lines state, after these statements, or the first fault
 unfoldable pub lines_read : List (ℕ × Statement) → List (ℕ × List ℕ) → Result (List (ℕ × Statement)) ParamFault
@@ -141,13 +160,14 @@ condition_numbered params child parent values =
     or_fault UnknownValue (all_some (value_number params p) values) >>= λ vs.
     Ok (record { child = c; parent = p; values = vs })
 
+-- this value of the parameter with a number
+abbrev pub pick_of : List Param → List ℕ → Option ℕ → Option Pick
+pick_of params value None = None
+pick_of params value (Some p) = option_map (λ v. record { param = p; value = v }) (value_number params p value)
+
 -- a pick by numbers
 unfoldable pub pick_numbered : List Param → NamedPick → Option Pick
-pick_numbered params pick = pick_of (param_number params pick.name)
-  where
-    pick_of : Option ℕ → Option Pick
-    pick_of None = None
-    pick_of (Some p) = option_map (λ v. record { param = p; value = v }) (value_number params p pick.value)
+pick_numbered params pick = pick_of params pick.value (param_number params pick.name)
 
 -- a clause by numbers: all its names, then its values
 unfoldable pub clause_numbered : List Param → List NamedPick → Result Forbidden SpaceWhat
@@ -156,24 +176,34 @@ clause_numbered params picks =
     or_fault UnknownValue (all_some (pick_numbered params) picks) >>= λ numbers.
     Ok (record { picks = numbers })
 
--- conditions and clauses by numbers, each with its line
+-- conditions and clauses by numbers, and their lines
 pub record Numbered : Type 0 where
-  pub conditions : List (ℕ × condition.Condition)
-  pub clauses : List (ℕ × Forbidden)
+  pub conditions : List condition.Condition
+  pub condition_lines : List ℕ
+  pub clauses : List Forbidden
+  pub clause_lines : List ℕ
+
+-- a condition in a line before others
+abbrev pub with_condition : ℕ → condition.Condition → Numbered → Numbered
+with_condition line c later = record later { conditions = c ∷ later.conditions; condition_lines = line ∷ later.condition_lines }
+
+-- a clause in a line before others
+abbrev pub with_clause : ℕ → Forbidden → Numbered → Numbered
+with_clause line f later = record later { clauses = f ∷ later.clauses; clause_lines = line ∷ later.clause_lines }
 
 -- the conditions and the clauses of statements by numbers, or the first fault
 unfoldable pub all_numbered : List Param → List (ℕ × Statement) → Result Numbered ParamFault
-all_numbered params [] = Ok (record { conditions = []; clauses = [] })
+all_numbered params [] = Ok (record { conditions = []; condition_lines = []; clauses = []; clause_lines = [] })
 all_numbered params ((line, Nothing) ∷ later) = all_numbered params later
 all_numbered params ((line, Parameter name values default) ∷ later) = all_numbered params later
 all_numbered params ((line, Condition child parent values) ∷ later) =
     in_line line (of_space (condition_numbered params child parent values)) >>= λ c.
     all_numbered params later >>= λ n.
-    Ok (record { conditions = (line, c) ∷ n.conditions; clauses = n.clauses })
+    Ok (with_condition line c n)
 all_numbered params ((line, Clause picks) ∷ later) =
     in_line line (of_space (clause_numbered params picks)) >>= λ f.
     all_numbered params later >>= λ n.
-    Ok (record { conditions = n.conditions; clauses = (line, f) ∷ n.clauses })
+    Ok (with_clause line f n)
 
 -- ---- the file
 
@@ -181,21 +211,21 @@ all_numbered params ((line, Clause picks) ∷ later) =
 abbrev pub lists_of : List Param → Numbered → Lists
 lists_of params numbered = record {
   params = params;
-  conditions = map (λ c. c.1) numbered.conditions;
-  forbidden = map (λ f. f.1) numbered.clauses;
+  conditions = numbered.conditions;
+  forbidden = numbered.clauses;
 }
 
--- the line of an element of the lists
-abbrev pub line_of : Numbered → Part → ℕ → ℕ
-line_of numbered part.Param place = 0
-line_of numbered part.Condition place = slice_index (map (λ c. c.0) numbered.conditions) place
-line_of numbered part.Forbidden place = slice_index (map (λ f. f.0) numbered.clauses) place
-line_of numbered part.Whole place = 0
+-- the line of an element of the lists, where these are the lines of the conditions and of the clauses; 0 for one of another list
+abbrev pub line_of : List ℕ → List ℕ → Part → ℕ → ℕ
+line_of condition_lines clause_lines part.Param place = 0
+line_of condition_lines clause_lines part.Condition place = slice_index condition_lines place
+line_of condition_lines clause_lines part.Forbidden place = slice_index clause_lines place
+line_of condition_lines clause_lines part.Whole place = 0
 
 -- lists without a fault as a whole, or the fault with its line
 abbrev pub without_fault : Numbered → Lists → Option SpaceFault → Result Lists ParamFault
 without_fault numbered lists None = Ok lists
-without_fault numbered lists (Some (space_fault.At part place what)) = Err (At (line_of numbered part place) (Space what))
+without_fault numbered lists (Some (space_fault.At part place what)) = Err (At (line_of numbered.condition_lines numbered.clause_lines part place) (Space what))
 without_fault numbered lists (Some space_fault.Memory) = Err Memory
 
 -- no cycle, and no clause that forbids the defaults
@@ -218,3 +248,8 @@ space_stated stated =
 unfoldable pub params_read : List ℕ → Result Lists ParamFault
 params_read text =
     if nat_lt 16777216 (length text) then Err (At 0 (Space TooMany)) else lines_read [] (numbered_lines text) >>= space_stated
+
+-- the fault that is returned is the one that is found; memory may always run out
+abbrev pub IsReadingFault : {A : Type 0} → ParamFault → Result A ParamFault → Type 0
+IsReadingFault Memory found = Unit {0}
+IsReadingFault (At line what) found = found ≡ Err (At line what)

@@ -7,6 +7,15 @@
 #![tactic(auto)]
 
 mod faults;
+mod forms;
+mod kept;
+mod line_rules;
+mod numbering;
+mod numbers;
+mod printer;
+mod reader;
 mod statements;
 
 pub use faults::{ParamFault, ParamWhat};
+pub use printer::print_params;
+pub use reader::read_params;

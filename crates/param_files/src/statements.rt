@@ -27,5 +27,7 @@ pub(crate) enum Statement {
         values: Items<Text>,
     },
     /// `{name=value, name=value}`.
-    Clause { picks: Items<NamedPick> },
+    Clause {
+        picks: Items<NamedPick>,
+    },
 }

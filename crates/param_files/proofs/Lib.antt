@@ -1,0 +1,12 @@
+pub mod Fronts
+pub mod Lists
+pub mod Picks
+pub mod Ends
+pub mod Differ
+pub mod AllSome
+pub mod ByNumbers
+pub mod Readings
+pub mod KeptLines
+pub mod Commas
+pub mod Printed
+pub mod Wholes

@@ -1,0 +1,10 @@
+use Rattle.std.proofs.Common.{◌≡◌, ◌++◌, take}
+use Rattle.std.specs.Prelude.{string_bytes}
+use Rattle.std.specs.List.{flat_map}
+use Rattle.param_files.specs.Printing.{clause_line}
+use Rattle.param_files.proofs.Commas.{ended}
+use Rattle.param_files.proofs.printer.push_clauses.Given as goal
+
+-- the lines so far are appended
+abbrev pub invariant-loop-clause : goal.invariant-loop-clause
+invariant-loop-clause l = string_bytes l.text ≡ string_bytes l.initial.text ++ flat_map (λ x. ended (clause_line l.params x)) (take l.clause-index l.clauses)
