@@ -14,6 +14,8 @@ mod numbering;
 mod numbers;
 mod reader;
 mod statements;
+#[cfg(test)]
+mod tests;
 
 pub use faults::{ParamFault, ParamWhat};
 pub use reader::read_params;
