@@ -35,7 +35,7 @@ all_some_more f xs i d x ys zs y inside is e h done =
 pub all_some_stops : {A B : Type 0} (f : A → Option B) (xs : List A) (i : ℕ) (d x : A) → i < length xs → x ≡ get_or xs i d → None ≡ f x → None ≡ all_some f xs
 all_some_stops f xs i d x inside is h =
     sym (ap (all_some f) (sym (take-append-drop i xs) ∙ ap (λ ys. take i xs ++ ys) (drop_more xs i d inside))
-        ∙ all_some-missing f (take i xs) (get_or xs i d) (drop (i + 1) xs) (ap f (sym is) ∙ sym h))
+    ∙ all_some-missing f (take i xs) (get_or xs i d) (drop (i + 1) xs) (ap f (sym is) ∙ sym h))
 
 -- the same where it is only told whether there is a reading
 pub is_some_more : {A B : Type 0} (f : A → Option B) (xs : List A) (i : ℕ) (d x : A) → i < length xs → x ≡ get_or xs i d → is_some (all_some f (take i xs)) ≡ true → is_some (f x) ≡ true → is_some (all_some f (take (i + 1) xs)) ≡ true

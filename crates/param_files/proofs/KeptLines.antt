@@ -109,7 +109,7 @@ read_more text kept new line left rest s read first is more =
       stated = now;
       same = sym so.0 ∙ ap (λ k. kept_and k line.number s) read.same ∙ sym (kept_of-push read.stated line.number s);
       rest = read.rest ∙ ap (λ ls. lines_read read.stated (map (numbered text) ls)) first
-        ∙ ap (λ r. r >>= λ x. lines_read (read.stated ++ (line.number, x) ∷ []) (map (numbered text) rest)) (next_line read.stated kept line.number (bytes_of text line) s read.same is ∙ so.1);
+          ∙ ap (λ r. r >>= λ x. lines_read (read.stated ++ (line.number, x) ∷ []) (map (numbered text) rest)) (next_line read.stated kept line.number (bytes_of text line) s read.same is ∙ so.1);
     }
 
 -- a line that is no text or has none of the forms

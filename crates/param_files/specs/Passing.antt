@@ -16,7 +16,9 @@ use Rattle.param_space.specs.declared.lists.SpaceWhat.{SpaceWhat}
 use Rattle.param_space.specs.declared.lists.SpaceWhat.TheVariants.{TooMany, BadWord, DoubleName, NoValues, DoubleValue, BadDefault, UnknownName, UnknownValue}
 use Rattle.param_space.specs.declared.lists.SpaceFault.{SpaceFault}
 use Rattle.param_space.specs.Space.{Lists, value_count}
-use Rattle.param_space.specs.Faults.{first_broken, or_later, first_in, or_else, texts_differ, numbers_differ, param_fault, later_params_fault, params_fault, condition_fault, conditions_fault, clause_fault, clauses_fault, cycle_fault, default_fault, space_fault}
+use Rattle.param_space.specs.Faults.{first_broken, first_in, texts_differ, numbers_differ, param_rules, param_fault, later_params_fault, params_fault, condition_rules as space_condition_rules, condition_fault, clause_rules as space_clause_rules, clause_fault, whole_fault, space_fault, AreFaultless}
+use Rattle.param_space.specs.Rules.{Hold, rules_hold, none_here}
+use Rattle.param_space.specs.Belonging.{few_params, few_values}
 use Rattle.param_files.specs.declared.faults.ParamWhat.{ParamWhat}
 use Rattle.param_files.specs.declared.faults.ParamFault.{ParamFault}
 use Rattle.param_files.specs.declared.statements.NamedPick.{NamedPick}
@@ -28,17 +30,6 @@ use Rattle.param_files.specs.Formed.{IsFormed, line_formed}
 use Rattle.param_files.specs.Apart.{length-all_some, list_all-all_some, map-all_some, values_apart, picks_apart, param_below, value_below}
 
 -- ---- rules
-
--- each of the rules holds
-abbrev pub Hold : List (Bool × SpaceWhat) → Type 0
-Hold [] = Unit {0}
-Hold ((b, what) ∷ rules) = (b ≡ true) × Hold rules
-
--- where none is broken they hold
-rules_hold : (rules : List (Bool × SpaceWhat)) → first_broken rules ≡ None → Hold rules
-rules_hold [] h = tt
-rules_hold ((true, what) ∷ rules) h = (refl, rules_hold rules h)
-rules_hold ((false, what) ∷ rules) h = absurd (cc)
 
 -- where they hold none is broken
 none_broken : (rules : List (Bool × SpaceWhat)) → Hold rules → first_broken rules ≡ None
@@ -75,17 +66,6 @@ named_alike : (name : List ℕ) (params : List Param) → list_any (bytes_eq nam
 named_alike name [] = refl
 named_alike name (p ∷ ps) = ap (λ rest. bytes_eq name p.name || rest) (named_alike name ps)
 
--- the rules of a parameter of a space
-abbrev space_param_rules : List (List ℕ) → ℕ → Param → List (Bool × SpaceWhat)
-space_param_rules earlier place p =
-    (nat_lt place 256 && nat_le (length p.values) 256, TooMany)
-    ∷ (is_word p.name && list_all is_word p.values, BadWord)
-    ∷ (not (list_any (bytes_eq p.name) earlier), DoubleName)
-    ∷ (nat_lt 0 (length p.values), NoValues)
-    ∷ (texts_differ p.values, DoubleValue)
-    ∷ (nat_lt p.default (length p.values), BadDefault)
-    ∷ []
-
 -- a parameter that keeps the rules of its line breaks none of a space
 param_passes : (params : List Param) (name : List ℕ) (values : List (List ℕ)) (default : List ℕ) → IsFormed (Parameter name values default) → first_broken (parameter_rules params name values default) ≡ None
     → param_fault (map (λ p. p.name) params) (length params) (numbered_param name values default) ≡ None
@@ -95,12 +75,8 @@ param_passes params name values default formed h =
     let below : nat_lt (position_or_len (bytes_eq default) values) (length values) ≡ true = grind (arith, nat_tests, before) in
     let words = formed.1.1 in
     let some : nat_lt 0 (length values) ≡ true = grind (arith, nat_tests, words) in
-    none_broken (space_param_rules (map (λ p. p.name) params) (length params) (numbered_param name values default))
+    none_broken (param_rules (map (λ p. p.name) params) (length params) (numbered_param name values default))
     (kept.0, (and_from (is_word name) (list_all is_word values) formed.0 formed.1.0, (ap not (named_alike name params) ∙ kept.1.0, (some, (kept.1.1.0, (below, tt))))))
-
-none_later : (place : ℕ) (what : Option SpaceWhat) (later : Option SpaceFault) → or_later part.Param place what later ≡ None → (what ≡ None) × (later ≡ None)
-none_later place None later h = (refl, h)
-none_later place (Some what) later h = absurd (cc)
 
 -- one more parameter without a fault
 params_more : (params : List Param) (p : Param) (earlier : List (List ℕ)) (place : ℕ) → later_params_fault earlier place params ≡ None → param_fault (earlier ++ map (λ q. q.name) params) (place + length params) p ≡ None
@@ -109,21 +85,16 @@ params_more [] p earlier place h last =
     let here : param_fault earlier place p ≡ None = ap (λ names. param_fault names place p) (sym (append-nil earlier)) ∙ ap (λ n. param_fault (earlier ++ []) n p) (omega arith) ∙ last in
     rw here refl
 params_more (q ∷ qs) p earlier place h last =
-    let none = none_later place (param_fault earlier place q) (later_params_fault (earlier ++ q.name ∷ []) (place + 1) qs) h in
+    let none = none_here part.Param place (param_fault earlier place q) (later_params_fault (earlier ++ q.name ∷ []) (place + 1) qs) h in
     let names = append_assoc earlier (q.name ∷ []) (map (λ r. r.name) qs) in
     let moved : param_fault ((earlier ++ q.name ∷ []) ++ map (λ r. r.name) qs) (place + 1 + length qs) p ≡ None =
     ap (λ ns. param_fault ns (place + 1 + length qs) p) names ∙ ap (λ n. param_fault (earlier ++ q.name ∷ map (λ r. r.name) qs) n p) (omega arith) ∙ last in
     rw (none.0, params_more qs p (earlier ++ q.name ∷ []) (place + 1) none.1 moved) refl
 
--- parameters from a place on, without a fault, are few
-few_from : (params : List Param) (earlier : List (List ℕ)) (place : ℕ) → later_params_fault earlier place params ≡ None → place ≤ 256 → (place + length params ≤ 256) × All (λ p. length p.values ≤ 256) params
-few_from [] earlier place h le = (omega arith, All-nil (λ p. length p.values ≤ 256))
-few_from (p ∷ later) earlier place h le =
-    let none = none_later place (param_fault earlier place p) (later_params_fault (earlier ++ p.name ∷ []) (place + 1) later) h in
-    let limits = and_parts (nat_lt place 256) (nat_le (length p.values) 256) (rules_hold (space_param_rules earlier place p) none.0).0 in
-    let below : place < 256 = ltb-true place 256 limits.0 in
-    let more = few_from later (earlier ++ p.name ∷ []) (place + 1) none.1 (omega arith) in
-    (omega (arith, more.0), All-cons (λ q. length q.values ≤ 256) p later (leb-true (length p.values) 256 limits.1) more.1)
+-- parameters without a fault are few
+few_of : (params : List Param) → later_params_fault [] 0 params ≡ None → AreFew params
+few_of [] h = record { count = omega arith; values = All-nil (λ p. length p.values ≤ 256) }
+few_of (p ∷ later) h = record { count = few_params (p ∷ later) h; values = λ i d below. few_values (p ∷ later) i d h below }
 
 params_in-append : (xs ys : List Statement) → params_in (xs ++ ys) ≡ params_in xs ++ params_in ys
 unfolding params_in
@@ -219,25 +190,6 @@ lines_pass ((number, line) ∷ later) earlier stated passed h =
 
 -- ---- numbers
 
--- the rules of a condition and of a clause of a space
-abbrev space_condition_rules : List Param → ℕ → condition.Condition → List (Bool × SpaceWhat)
-space_condition_rules params place c =
-    (nat_lt place 1024, TooMany)
-    ∷ (nat_lt 0 (length c.values), NoValues)
-    ∷ (numbers_differ c.values, DoubleValue)
-    ∷ (nat_lt c.child (length params) && nat_lt c.parent (length params), UnknownName)
-    ∷ (list_all (λ v. nat_lt v (value_count params c.parent)) c.values, UnknownValue)
-    ∷ []
-
-abbrev space_clause_rules : List Param → ℕ → Forbidden → List (Bool × SpaceWhat)
-space_clause_rules params place f =
-    (nat_lt place 4096 && nat_le (length f.picks) 16, TooMany)
-    ∷ (nat_lt 0 (length f.picks), NoValues)
-    ∷ (numbers_differ (map (λ k. k.param) f.picks), DoubleName)
-    ∷ (list_all (λ k. nat_lt k.param (length params)) f.picks, UnknownName)
-    ∷ (list_all (λ k. nat_lt k.value (value_count params k.param)) f.picks, UnknownValue)
-    ∷ []
-
 -- a condition by numbers breaks no rule of a space
 condition_passes : (params : List Param) (child parent : List ℕ) (values : List (List ℕ)) (c : condition.Condition) (place : ℕ) → IsGood (Condition child parent values) → condition_numbered params child parent values ≡ Ok c → place < 1024
     → condition_fault params place c ≡ None
@@ -300,10 +252,19 @@ clause_passes params picks f place good h room = by (all_some (λ k. param_numbe
         let most : (nat_lt place 4096 && nat_le (length numbers) 16) ≡ true = grind (arith, nat_tests, room, size, short) in
         let some : nat_lt 0 (length numbers) ≡ true = grind (arith, nat_tests, size, first) in
         let same : map (λ k. k.param) numbers ≡ ns = map-all_some (λ k. param_number params k.name) (pick_numbered params) (λ k. k.param) picks ns numbers (λ k n e. (pick_known params k n e).0) names read in
-        none_broken (space_clause_rules params place (record { picks = numbers }))
-        (most, (some, (ap numbers_differ same ∙ picks_apart params picks ns names good.2,
-            (list_all-all_some (pick_numbered params) (λ k. nat_lt k.param (length params)) picks numbers (λ k n e. param_below params k.name n.param (pick_known params k n e).0) read,
-                (list_all-all_some (pick_numbered params) (λ k. nat_lt k.value (value_count params k.param)) picks numbers (λ k n e. value_below params n.param k.value n.value (pick_known params k n e).1) read, tt)))))
+        none_broken (space_clause_rules params place (record { picks = numbers })) (
+          most,
+          (
+            some,
+            (
+              ap numbers_differ same ∙ picks_apart params picks ns names good.2,
+              (
+                list_all-all_some (pick_numbered params) (λ k. nat_lt k.param (length params)) picks numbers (λ k n e. param_below params k.name n.param (pick_known params k n e).0) read,
+                (list_all-all_some (pick_numbered params) (λ k. nat_lt k.value (value_count params k.param)) picks numbers (λ k n e. value_below params n.param k.value n.value (pick_known params k n e).1) read, tt),
+              ),
+            ),
+          ),
+        )
 
     with_values : (ns : List ℕ) (o : Option (List Pick)) → all_some (λ k. param_number params k.name) picks ≡ Some ns → all_some (pick_numbered params) picks ≡ o → (or_fault UnknownValue o >>= λ numbers. Ok (record { picks = numbers })) ≡ Ok f
         → clause_fault params place f ≡ None
@@ -369,11 +330,10 @@ module _ (lines : List (ℕ × List ℕ)) (stated : List (ℕ × Statement)) (re
 
   -- there are few parameters, each with few values
   pub lines_few : AreFew (params_in (map (λ s. s.1) stated))
-  lines_few = let few = few_from (params_in (map (λ s. s.1) stated)) [] 0 passed.params (omega arith) in record { count = omega (arith, few.0); values = few.1 }
+  lines_few = few_of (params_in (map (λ s. s.1) stated)) passed.params
 
   module _ (params : List Param) (some : some_params (params_in (map (λ s. s.1) stated)) ≡ Ok params) where
-    -- the parameters break no rule of a space
-    pub params_pass : params_fault params ≡ None
+    params_pass : params_fault params ≡ None
     params_pass = by (params_in (map (λ s. s.1) stated)) passed.params some
       where
         same_ok : (x y : List Param) → ◌≡◌ {A = Result (List Param) ParamFault} (Ok x) (Ok y) → x ≡ y
@@ -384,17 +344,12 @@ module _ (lines : List (ℕ × List ℕ)) (stated : List (ℕ × Statement)) (re
         by (p ∷ ps) none e = subst (λ qs. params_fault qs ≡ None) (same_ok (p ∷ ps) params e) none
 
     module _ (numbered : Numbered) (all : all_numbered params stated ≡ Ok numbered) where
-      numbers_kept : (conditions_fault params numbered.conditions ≡ None) × (clauses_fault params numbered.clauses ≡ None)
-      numbers_kept = numbers_pass params stated numbered 0 0 passed.each (omega (arith, passed.conditions)) (omega (arith, passed.clauses)) all
-
-      -- nor do the conditions
-      pub conditions_pass : conditions_fault params numbered.conditions ≡ None
-      conditions_pass = numbers_kept.0
-
-      -- nor the clauses
-      pub clauses_pass : clauses_fault params numbered.clauses ≡ None
-      clauses_pass = numbers_kept.1
+      -- each of the lists by itself breaks no rule of a space
+      pub lists_pass : AreFaultless (lists_of params numbered)
+      lists_pass =
+          let numbers = numbers_pass params stated numbered 0 0 passed.each (omega (arith, passed.conditions)) (omega (arith, passed.clauses)) all in
+          record { params = params_pass; conditions = numbers.0; clauses = numbers.1 }
 
       -- it is left to look at the space as a whole
-      pub whole_left : space_fault (lists_of params numbered) ≡ or_else (cycle_fault (lists_of params numbered)) (default_fault (lists_of params numbered))
-      whole_left = rw (params_pass, conditions_pass, clauses_pass) refl
+      pub whole_left : space_fault (lists_of params numbered) ≡ whole_fault (lists_of params numbered)
+      whole_left = rw (lists_pass.params, lists_pass.conditions, lists_pass.clauses) refl

@@ -15,7 +15,7 @@ use Rattle.param_space.specs.declared.lists.SpaceWhat.TheVariants.{NoParameters,
 use Rattle.param_space.specs.declared.lists.SpaceFault.{SpaceFault}
 use Rattle.param_space.specs.declared.lists.SpaceFault.TheVariants as space_fault
 use Rattle.param_space.specs.Space.{Lists}
-use Rattle.param_space.specs.Faults.{first_broken, texts_differ, or_else, cycle_fault, default_fault}
+use Rattle.param_space.specs.Faults.{first_broken, texts_differ, whole_fault}
 use Rattle.param_files.specs.declared.faults.ParamWhat.{ParamWhat}
 use Rattle.param_files.specs.declared.faults.ParamWhat.TheVariants.{NotText, Form, Space}
 use Rattle.param_files.specs.declared.faults.ParamFault.{ParamFault}
@@ -230,7 +230,7 @@ without_fault numbered lists (Some space_fault.Memory) = Err Memory
 
 -- no cycle, and no clause that forbids the defaults
 abbrev pub whole : Numbered → Lists → Result Lists ParamFault
-whole numbered lists = without_fault numbered lists (or_else (cycle_fault lists) (default_fault lists))
+whole numbered lists = without_fault numbered lists (whole_fault lists)
 
 -- one or more parameters
 abbrev pub some_params : List Param → Result (List Param) ParamFault

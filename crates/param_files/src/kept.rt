@@ -80,7 +80,13 @@ impl Kept {
         ensures fault { IfErr result (λ e. IsReadingFault e (kept_with self.old line (Parameter name values default))) }
     {
         let (texts, text) = (values.as_slice(), default.as_str());
-        if let Some(what) = param_fault(alloc, self.params.as_slice(), name.as_str(), texts, text)? {
+        if let Some(what) = param_fault(
+            alloc,
+            self.params.as_slice(),
+            name.as_str(),
+            texts,
+            text,
+        )? {
             return Err(broken(line, what));
         }
         let default = place_of(texts, text) as u16;

@@ -63,8 +63,14 @@ impl Numbered {
                 values,
             } => {
                 let (child, parent) = (child.as_str(), parent.as_str());
-                let condition =
-                    numbered_condition(alloc, params, line, child, parent, values.as_slice())?;
+                let condition = numbered_condition(
+                    alloc,
+                    params,
+                    line,
+                    child,
+                    parent,
+                    values.as_slice(),
+                )?;
                 self.conditions.push(condition)?;
                 self.condition_lines.push(line)?;
                 Ok(())
@@ -81,12 +87,7 @@ impl Numbered {
 
 /// The line of an element of the lists, by the lines of the conditions and of the clauses;
 /// 0 for one of another list.
-pub(crate) fn line_of(
-    condition_lines: &[u32],
-    clause_lines: &[u32],
-    part: Part,
-    place: u32,
-) -> u32
+pub(crate) fn line_of(condition_lines: &[u32], clause_lines: &[u32], part: Part, place: u32) -> u32
     ensures { result ≡ line_in condition_lines.now clause_lines.now part place }
 {
     match part {

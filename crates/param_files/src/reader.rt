@@ -69,7 +69,12 @@ fn space_of(alloc: Global, params: Vec<Param>, numbered: Numbered) -> Result<Spa
     match Space::new(alloc, params, conditions, clauses) {
         Ok(space) => Ok(space),
         Err(SpaceFault::At { part, place, what }) => {
-            let line = line_of(condition_lines.as_slice(), clause_lines.as_slice(), part, place);
+            let line = line_of(
+                condition_lines.as_slice(),
+                clause_lines.as_slice(),
+                part,
+                place,
+            );
             Err(broken(line, what))
         }
         Err(SpaceFault::Memory) => Err(ParamFault::Memory),
@@ -90,7 +95,9 @@ pub fn read_params(alloc: Global, text: &[u8]) -> Result<Space, ParamFault>
         return Err(broken(0, SpaceWhat::TooMany));
     }
     let Kept {
-        params, relations, ..
+        params,
+        relations,
+        ..
     } = read_lines(alloc, text)?;
     if params.is_empty() {
         return Err(broken(0, SpaceWhat::NoParameters));

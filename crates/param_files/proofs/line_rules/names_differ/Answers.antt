@@ -8,8 +8,8 @@ returns-then-has_pick c =
     let picks = c.args.picks.now in
     let i = c.loop-i.i in
     sym (c.loop-i.invariant
-        ∙ names_step picks i c.index-picks-i.result c.as_str.result.now c.has_pick.result c.loop-i-test.true c.index-picks-i.is c.as_str.ensures c.has_pick.ensures
-        ∙ ap (λ b. not b && texts_differ (names_from picks (i + 1))) c.if-has_pick.true)
+    ∙ names_step picks i c.index-picks-i.result c.as_str.result.now c.has_pick.result c.loop-i-test.true c.index-picks-i.is c.as_str.ensures c.has_pick.ensures
+    ∙ ap (λ b. not b && texts_differ (names_from picks (i + 1))) c.if-has_pick.true)
 
 pub loop-i-preserved : goal.loop-i-preserved
 loop-i-preserved c =

@@ -18,6 +18,6 @@ loop-text-preserved c =
     let same : c.as_str.result.now ≡ get_or xs i [] = c.as_str.ensures ∙ get_or_read xs i c.text-item.result c.loop-text-test.true c.text-item.is [] in
     record {
       differ = differ_more xs i c.loop-text-test.true c.loop-text.invariant.differ
-        (seen_before c.loop-text.seen xs i c.as_str.result c.in_ok-insert.field-0 c.loop-text.invariant.seen c.in_ok-insert.ensures.added same ∙ ap not c.if-not-branch.false);
+          (seen_before c.loop-text.seen xs i c.as_str.result c.in_ok-insert.field-0 c.loop-text.invariant.seen c.in_ok-insert.ensures.added same ∙ ap not c.if-not-branch.false);
       seen = λ q. seen_more c.loop-text.seen c.insert.new.self xs i c.as_str.result q c.loop-text-test.true same (c.loop-text.invariant.seen q) (c.in_ok-insert.ensures.updates.0 q);
     }

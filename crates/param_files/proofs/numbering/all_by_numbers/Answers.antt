@@ -22,9 +22,9 @@ returns-in_err-add-clause-fault c =
     let relations = c.args.relations.now in
     let p = err_from_is_err_and c.from_residual.result c.from_residual.ensures.1 in
     rw (p.1, p.2) (fault_moves _ (numbered_with params c.loop-line.numbers c.loop-line-item.result.0 c.loop-line-item.result.1) (all_numbered params relations)
-        (λ f h. numbers_stops params relations c.loop-line.line-index c.loop-line-item.result c.loop-line.numbers f c.loop-line-test.true c.loop-line.invariant
-            (ap (λ s. numbered_with params c.loop-line.numbers s.0 s.1) (sym c.loop-line-item.is) ∙ h))
-        c.in_err-add.ensures.fault)
+    (λ f h. numbers_stops params relations c.loop-line.line-index c.loop-line-item.result c.loop-line.numbers f c.loop-line-test.true c.loop-line.invariant
+    (ap (λ s. numbered_with params c.loop-line.numbers s.0 s.1) (sym c.loop-line-item.is) ∙ h))
+    c.in_err-add.ensures.fault)
 
 pub returns-clause-value : goal.returns-clause-value
 returns-clause-value c =

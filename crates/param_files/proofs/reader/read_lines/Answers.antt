@@ -26,8 +26,8 @@ returns-in_err-statement-clause-fault c =
     let p = err_from_is_err_and c.from_residual.result c.from_residual.ensures.1 in
     rw (p.1, p.2)
     (fault_moves _ (in_line line.number (line_stated (bytes_of text line))) _
-        (λ f h. read_stops text c.loop-line.kept line c.loop-line.line-iterator c.next.new.self f c.loop-line.invariant.read c.in-Some.ensures.steps h)
-        c.in_err-statement.ensures.fault)
+    (λ f h. read_stops text c.loop-line.kept line c.loop-line.line-iterator c.next.new.self f c.loop-line.invariant.read c.in-Some.ensures.steps h)
+    c.in_err-statement.ensures.fault)
 
 pub loop-line-preserved : goal.loop-line-preserved
 loop-line-preserved c =
@@ -46,8 +46,8 @@ returns-in_err-add-clause-fault c =
     let p = err_from_is_err_and c.from_residual-in_err-add.result c.from_residual-in_err-add.ensures.1 in
     rw (p.1, p.2)
     (fault_moves _ (kept_with c.loop-line.kept line.number c.in_ok-statement.statement) _
-        (λ f h. rule_stops text c.loop-line.kept line c.loop-line.line-iterator c.next.new.self c.in_ok-statement.statement f c.loop-line.invariant.read c.in-Some.ensures.steps c.in_ok-statement.ensures.value h)
-        c.in_err-add.ensures.fault)
+    (λ f h. rule_stops text c.loop-line.kept line c.loop-line.line-iterator c.next.new.self c.in_ok-statement.statement f c.loop-line.invariant.read c.in-Some.ensures.steps c.in_ok-statement.ensures.value h)
+    c.in_err-add.ensures.fault)
 
 pub returns-clause-value : goal.returns-clause-value
 returns-clause-value c = read_all c.args.text.now c.loop-line.kept c.loop-line.line-iterator c.in-None.ensures.steps.0 c.loop-line.invariant.read

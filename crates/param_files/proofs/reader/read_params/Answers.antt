@@ -34,7 +34,7 @@ returns-in_err-numbered-clause-fault c =
     let p = err_from_is_err_and c.from_residual-in_err-numbered.result c.from_residual-in_err-numbered.ensures.1 in
     rw (p.1, p.2)
     (fault_moves _ (all_numbered c.params.inside.params.items c.params.inside.relations.items) _ (numbers_fault text _ c.if-text-gt-MAX_BYTES.false read some)
-        (rw (c.as_slice.ensures.value, c.as_slice-2.ensures.value) at c.in_err-numbered.ensures.fault))
+    (rw (c.as_slice.ensures.value, c.as_slice-2.ensures.value) at c.in_err-numbered.ensures.fault))
 
 pub returns-clause-value : goal.returns-clause-value
 returns-clause-value c =

@@ -16,4 +16,4 @@ pub returns-clause-fault : goal.returns-clause-fault
 returns-clause-fault c =
     ap (in_line c.args.line)
     (text_stated c.args.bytes.now c.in-Ok.text.now c.as_slice.result.now c.in_ok-tokens.tokens.items c.in_ok-statement.field-0 c.in-Ok.ensures.cases.0 c.in-Ok.ensures.cases.1 c.in_ok-tokens.ensures c.as_slice.ensures.value c.in_ok-statement.ensures
-        ∙ ap (or_fault Form) c.in-None.is)
+    ∙ ap (or_fault Form) c.in-None.is)
