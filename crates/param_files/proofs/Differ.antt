@@ -1,5 +1,5 @@
 -- Texts that differ, one after another.
-use Rattle.std.proofs.Common.{ℕ, ◌≡◌, ◌<◌, ◌+◌, ◌-◌, Bool, true, false, not, ◌&&◌, ◌||◌, cond, List, [], ◌∷◌, ◌++◌, Bor, length, get_or, map, take, drop, refl, ap, sym, ◌∙◌, arith, bytes_eq}
+use Rattle.std.proofs.Common.{ℕ, ◌≡◌, ◌<◌, ◌+◌, ◌-◌, Bool, true, false, not, ◌&&◌, ◌||◌, cond, List, [], ◌∷◌, ◌++◌, Bor, length, get_or, map, take, drop, refl, ap, sym, ◌∙◌, bytes_eq}
 use Rattle.std.specs.List.{list_any}
 use Rattle.std.specs.Ordering.{nat_cmp}
 use Rattle.std.specs.Cmp.Lexicographic.{slice_cmp}
@@ -7,11 +7,10 @@ use Rattle.std.specs.BTreeMap.{is_at}
 use Rattle.std.specs.BTreeSet as tree
 use Rattle.std.specs.BTreeSet.{BTreeSet}
 use Rattle.std.specs.declared.cmp.Ordering.{Ordering}
-use Rattle.std.proofs.lemmas.Bool.{true_from_ne_false, not_from_true}
 use Rattle.std.proofs.lemmas.List.{take_more, take-append-drop, take_rest, drop_more}
 use Rattle.std.proofs.lemmas.List.Folds.{list_any-append, list_any_more}
 use Rattle.std.proofs.lemmas.Map.Text.{is_eq-slice_cmp}
-use Rattle.param_space.specs.Faults.{differ, texts_differ}
+use Rattle.param_space.specs.Faults.{texts_differ}
 use Rattle.param_files.specs.declared.statements.NamedPick.{NamedPick}
 
 -- a test of names

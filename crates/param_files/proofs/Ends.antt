@@ -1,5 +1,5 @@
 -- Lines that don't end as their form asks.
-use Rattle.std.proofs.Common.{ℕ, ◌≡◌, ◌≤◌, ◌-◌, Bool, true, false, cond, List, [], ◌∷◌, Bor, Option, Some, None, length, drop, take, refl, ap, sym, ◌∙◌, arith}
+use Rattle.std.proofs.Common.{ℕ, ◌≡◌, ◌≤◌, Bool, true, false, cond, List, [], ◌∷◌, Bor, Option, Some, None, length, drop, refl, ap, sym, ◌∙◌, arith}
 use Rattle.std.specs.Option.{option_map}
 use Rattle.std.proofs.lemmas.List.{drop-map, take_rest}
 use Rattle.param_files.specs.declared.statements.NamedPick.{NamedPick}

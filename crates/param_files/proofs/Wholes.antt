@@ -1,16 +1,12 @@
 -- From what is kept of a file's lines to its space.
-use Rattle.std.proofs.Common.{ℕ, ◌≡◌, ◌<◌, ◌≤◌, ◌+◌, ◌++◌, Bool, true, false, cond, List, [], ◌∷◌, Option, Some, None, Result, Ok, Err, nat_lt, length, get_or, map, refl, ap, sym, subst, ◌∙◌, arith}
-use Rattle.std.specs.List.{All, filter}
-use Rattle.std.proofs.lemmas.Bool.{le-ltb, leb-true, and_parts}
-use Rattle.std.proofs.lemmas.List.Elements.{All-nil, All-cons}
+use Rattle.std.proofs.Common.{ℕ, ◌≡◌, ◌<◌, ◌≤◌, cond, List, [], ◌∷◌, Result, Ok, Err, length, map, refl, ap, sym, subst, ◌∙◌, arith}
+use Rattle.std.specs.List.{filter}
+use Rattle.std.proofs.lemmas.Bool.{le-ltb}
 use Rattle.plain_text.specs.Lines.{numbered_lines}
 use Rattle.param_space.specs.declared.lists.Param.{Param}
-use Rattle.param_space.specs.declared.lists.Condition as condition
-use Rattle.param_space.specs.declared.lists.Forbidden.{Forbidden}
-use Rattle.param_space.specs.declared.lists.SpaceWhat.{SpaceWhat}
 use Rattle.param_space.specs.declared.lists.SpaceWhat.TheVariants.{NoParameters, TooMany}
 use Rattle.param_space.specs.Space.{Lists}
-use Rattle.param_space.specs.Faults.{space_fault, params_fault, later_params_fault}
+use Rattle.param_space.specs.Faults.{space_fault}
 use Rattle.param_files.specs.declared.faults.ParamWhat.TheVariants.{Space}
 use Rattle.param_files.specs.declared.faults.ParamFault.{ParamFault}
 use Rattle.param_files.specs.declared.faults.ParamFault.TheVariants.{At}

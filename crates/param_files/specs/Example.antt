@@ -1,9 +1,9 @@
 -- A file of two parameters and a condition, worked; and faults of small files.
-use Rattle.std.specs.Prelude.{ℕ, ◌≡◌, List, [], ◌∷◌, ◌++◌, Ok, Err, refl, codes}
+use Rattle.std.specs.Prelude.{ℕ, ◌≡◌, List, [], ◌∷◌, Ok, Err, refl, codes}
 use Rattle.param_space.specs.declared.lists.SpaceWhat.TheVariants as what
 use Rattle.param_space.specs.Space.{Lists}
 use Rattle.param_files.specs.declared.faults.ParamFault.TheVariants.{At}
-use Rattle.param_files.specs.declared.faults.ParamWhat.TheVariants.{NotText, Form, Space}
+use Rattle.param_files.specs.declared.faults.ParamWhat.TheVariants.{Space}
 use Rattle.std.specs.Str.{is_utf8, chars}
 use Rattle.plain_text.specs.Lines.{numbered_lines, lines_of}
 use Rattle.plain_text.specs.Tokens.{token_texts, tokens, tokens_before, begins, token_end}

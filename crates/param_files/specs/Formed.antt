@@ -1,8 +1,8 @@
 -- What statements have that a line's forms give: words, and at least one value or pick.
-use Rattle.std.specs.Prelude.{ℕ, ◌≡◌, ◌<◌, Bool, true, false, not, ◌&&◌, List, [], ◌∷◌, Option, Some, None, Result, Ok, Err, option_map, length, bytes_eq, codes, if◌then◌else◌, refl}
+use Rattle.std.specs.Prelude.{ℕ, ◌≡◌, ◌<◌, Bool, true, false, not, ◌&&◌, List, [], ◌∷◌, Option, Some, None, Result, Ok, Err, option_map, length, bytes_eq, codes, refl}
 use Rattle.std.specs.List.{list_all}
 use Rattle.std.specs.Str.{is_utf8}
-use Rattle.std.proofs.Common.{ap, sym, subst, ◌∙◌, arith, cond}
+use Rattle.std.proofs.Common.{ap, subst, arith, cond}
 use Rattle.std.proofs.lemmas.Bool.{and_parts, and_from}
 use Rattle.std.proofs.lemmas.Option.{some_pair_parts, same_Some}
 use Rattle.plain_text.specs.Words.{is_word}
@@ -12,7 +12,7 @@ use Rattle.param_files.specs.declared.faults.ParamWhat.TheVariants.{NotText, For
 use Rattle.param_files.specs.declared.statements.NamedPick.{NamedPick}
 use Rattle.param_files.specs.declared.statements.Statement.{Statement}
 use Rattle.param_files.specs.declared.statements.Statement.TheVariants.{Nothing, Parameter, Condition, Clause}
-use Rattle.param_files.specs.Grammar.{is_nothing, is_pick, listed, picked, ended_clause, clause_of, is_condition_head, ended_condition, condition_of, is_default, default_of, listed_parameter, parameter_of, or_form, statement_of}
+use Rattle.param_files.specs.Grammar.{is_nothing, is_pick, listed, picked, ended_clause, clause_of, is_condition_head, ended_condition, condition_of, default_of, listed_parameter, parameter_of, or_form, statement_of}
 use Rattle.param_files.specs.Reading.{or_fault, line_stated}
 
 -- one or more words

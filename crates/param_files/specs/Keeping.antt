@@ -1,5 +1,5 @@
 -- What is kept of the lines of a parameter file: of a statement that means nothing, nothing.
-use Rattle.std.specs.Prelude.{ℕ, ◌≡◌, ◌≤◌, ◌+◌, Bool, true, false, ◌||◌, List, [], ◌∷◌, ◌++◌, Option, Result, Ok, length, map}
+use Rattle.std.specs.Prelude.{ℕ, ◌≡◌, ◌≤◌, ◌+◌, Bool, ◌||◌, List, [], ◌∷◌, ◌++◌, Option, Result, Ok, length, map}
 use Rattle.std.specs.List.{All, filter}
 use Rattle.param_space.specs.declared.lists.Param.{Param}
 use Rattle.param_space.specs.declared.lists.SpaceWhat.{SpaceWhat}

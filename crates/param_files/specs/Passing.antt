@@ -5,7 +5,7 @@ use Rattle.std.proofs.Common.{ap, sym, ◌∙◌, subst, arith, cond}
 use Rattle.std.proofs.lemmas.Bool.{and_from, and_parts, ltb-true, leb-true, both_ways}
 use Rattle.std.proofs.lemmas.Bool.Decides.{nat_tests}
 use Rattle.std.proofs.lemmas.List.{append_assoc, append-nil, length-append, map-append}
-use Rattle.std.proofs.lemmas.List.Elements.{All-nil, All-cons, All-head, All-tail, All-push, filter-append}
+use Rattle.std.proofs.lemmas.List.Elements.{All-nil, All-head, All-tail, All-push, filter-append}
 use Rattle.plain_text.specs.Words.{is_word}
 use Rattle.param_space.specs.declared.lists.Param.{Param}
 use Rattle.param_space.specs.declared.lists.Condition as condition
@@ -13,9 +13,8 @@ use Rattle.param_space.specs.declared.lists.Pick.{Pick}
 use Rattle.param_space.specs.declared.lists.Forbidden.{Forbidden}
 use Rattle.param_space.specs.declared.lists.Part.TheVariants as part
 use Rattle.param_space.specs.declared.lists.SpaceWhat.{SpaceWhat}
-use Rattle.param_space.specs.declared.lists.SpaceWhat.TheVariants.{TooMany, BadWord, DoubleName, NoValues, DoubleValue, BadDefault, UnknownName, UnknownValue}
-use Rattle.param_space.specs.declared.lists.SpaceFault.{SpaceFault}
-use Rattle.param_space.specs.Space.{Lists, value_count}
+use Rattle.param_space.specs.declared.lists.SpaceWhat.TheVariants.{UnknownName, UnknownValue}
+use Rattle.param_space.specs.Space.{value_count}
 use Rattle.param_space.specs.Faults.{first_broken, first_in, texts_differ, numbers_differ, param_rules, param_fault, later_params_fault, params_fault, condition_rules as space_condition_rules, condition_fault, clause_rules as space_clause_rules, clause_fault, whole_fault, space_fault, AreFaultless}
 use Rattle.param_space.specs.Rules.{Hold, rules_hold, none_here}
 use Rattle.param_space.specs.Belonging.{few_params, few_values}

@@ -1,4 +1,4 @@
-use Rattle.std.proofs.Common.{◌+◌, sym, ◌∙◌, ap, arith, ◌++◌, ◌∷◌, []}
+use Rattle.std.proofs.Common.{sym, ◌∙◌, ap, ◌++◌, ◌∷◌, []}
 use Rattle.param_files.proofs.Fronts.{texts, two, inside, short}
 use Rattle.param_files.proofs.Lists.{listed_short, listed_no_word, listed_last, listed_more, listed_no_mark}
 use Rattle.param_files.proofs.forms.listed.Goals as goal

@@ -1,7 +1,7 @@
-use Rattle.std.proofs.Common.{rules, sym, ap, ◌∙◌, drop, ◌≡◌, Some, None}
-use Rattle.std.specs.Option.{option_map, option_copied}
+use Rattle.std.proofs.Common.{sym, ap, ◌∙◌, drop, Some}
+use Rattle.std.specs.Option.{option_map}
 use Rattle.std.proofs.lemmas.Bool.{not-false}
-use Rattle.param_files.specs.Grammar.{listed, default_of, parameter_of}
+use Rattle.param_files.specs.Grammar.{default_of}
 use Rattle.param_files.proofs.Fronts.{texts, left}
 use Rattle.param_files.proofs.Ends.{texts-left, parameter_without, parameter_with}
 use Rattle.param_files.proofs.forms.parameter_of.Goals as goal

@@ -1,4 +1,4 @@
-use Rattle.std.proofs.Common.{◌+◌, sym, ◌∙◌, ap, arith, ◌++◌, ◌∷◌, []}
+use Rattle.std.proofs.Common.{sym, ◌∙◌}
 use Rattle.param_files.proofs.Fronts.{texts, four, inside, short}
 use Rattle.param_files.proofs.Picks.{pushed, picked_short, picked_no_pick, picked_last, picked_more, picked_no_mark}
 use Rattle.param_files.proofs.forms.picked.Goals as goal

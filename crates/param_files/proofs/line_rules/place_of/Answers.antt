@@ -1,4 +1,4 @@
-use Rattle.std.proofs.Common.{[], ◌≡◌, ◌≤◌, true, sym, ◌∙◌, ap, get_or, bytes_eq, arith, length}
+use Rattle.std.proofs.Common.{[], ◌≡◌, sym, ◌∙◌, ap, get_or, bytes_eq, arith, length}
 use Rattle.std.proofs.lemmas.List.{get_or_read}
 use Rattle.std.proofs.lemmas.List.Sums.{position_or_len_is}
 use Rattle.param_files.proofs.line_rules.place_of.Goals as goal

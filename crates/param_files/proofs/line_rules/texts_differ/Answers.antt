@@ -1,6 +1,6 @@
 use Rattle.std.proofs.Common.{[], ◌≡◌, ◌∙◌, ap, not, get_or}
 use Rattle.std.proofs.lemmas.List.{get_or_read}
-use Rattle.param_files.proofs.Differ.{among, seen_before, seen_more, differ_more, differ_stops}
+use Rattle.param_files.proofs.Differ.{seen_before, seen_more, differ_more, differ_stops}
 use Rattle.param_files.proofs.line_rules.texts_differ.Goals as goal
 
 pub returns-then-not-branch : goal.returns-then-not-branch

@@ -1,9 +1,9 @@
-use Rattle.std.proofs.Common.{◌≡◌, ap, sym, ◌∙◌}
+use Rattle.std.proofs.Common.{◌≡◌, ◌∙◌}
 use Rattle.std.proofs.lemmas.List.Elements.{All-same, All-rest}
 use Rattle.std.proofs.lemmas.Result.{err_from_is_err_and}
-use Rattle.plain_text.specs.Lines.{lines, numbered_lines}
+use Rattle.plain_text.specs.Lines.{lines}
 use Rattle.plain_text.specs.LinePlaces.{IsLineWithin, lines_within}
-use Rattle.param_files.specs.Reading.{in_line, line_stated, lines_read}
+use Rattle.param_files.specs.Reading.{in_line, line_stated}
 use Rattle.param_files.specs.Keeping.{kept_with}
 use Rattle.param_files.proofs.Readings.{fault_moves}
 use Rattle.param_files.proofs.KeptLines.{bytes_of, read_none, read_all, read_more, read_stops, rule_stops}
