@@ -1,5 +1,5 @@
 //! A file by value, and the first fault of files.
-use crate::{ParamFault, ParamWhat, read_params};
+use crate::{ParamFault, ParamWhat, print_params, read_params};
 use objective::Memory;
 use param_space::{Pick, SpaceWhat};
 use plain_text::Text;
@@ -35,6 +35,24 @@ fn reads_a_space(rt: HostRuntime) -> Result<(), Fail> {
     assert_eq!(rt; condition.values.as_slice(), [1].as_slice());
     let picks = [Pick { param: 0, value: 0 }, Pick { param: 1, value: 2 }];
     assert_eq!(rt; clause.picks.as_slice(), picks.as_slice());
+    Ok(())
+}
+
+/// Appends what is read of a text, as it is printed.
+fn push_printed(alloc: Global, text: &str, out: &mut Vec<u8>) -> Result<(), Fail> {
+    let space = read_params(alloc, text.as_bytes())?;
+    print_params(&space, out)?;
+    Ok(())
+}
+
+#[test]
+fn prints_what_it_reads(rt: HostRuntime) -> Result<(), Fail> {
+    let three = "x {a, b} [a]\ny {1, 2} [1]\ny | x in {a}\n";
+    let mut out = b"# A file.\n".to_vec(rt.alloc())?;
+    push_printed(rt.alloc(), three, &mut out)?;
+    push_printed(rt.alloc(), SMALL, &mut out)?;
+    let wanted = "# A file.\nx {a, b} [a]\ny {1, 2} [1]\ny | x in {a}\nx {a, b} [b]\ny {1, 2, zwölf} [2]\ny | x in {b}\n{x=a, y=zwölf}\n";
+    assert_eq!(rt; out.as_slice(), wanted.as_bytes());
     Ok(())
 }
 

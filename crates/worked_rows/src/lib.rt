@@ -9,4 +9,6 @@ mod drawn;
 #[cfg(test)]
 mod searches;
 #[cfg(test)]
+mod spaces;
+#[cfg(test)]
 mod tests;

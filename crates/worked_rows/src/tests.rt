@@ -214,8 +214,8 @@ fn files_that_fail_and_files_of_another_form(rt: HostRuntime) -> Result<(), Fail
         ("other", "", 2, "readfault p\n", 4),
         ("s", "", 0, "unbuilt\n", 10),
         ("s", "algo = w\nspeed = 3\n", 0, "unbuilt\n", 10),
-        ("p", "x {a, b} [c]\n", 0, "unbuilt\n", 10),
-        ("p", "x {a,b} [a]\n", 0, "unbuilt\n", 10),
+        ("p", "", 0, "badfile p 0 NoParameters\n", 3),
+        ("p", "x {a, b} [c]\n", 0, "badfile p 1 BadDefault\n", 3),
         ("i", "", 0, "unbuilt\n", 10),
         ("i", "one two\n", 0, "unbuilt\n", 10),
     ] {
