@@ -51,7 +51,8 @@ fn prints_what_it_reads(rt: HostRuntime) -> Result<(), Fail> {
     let mut out = b"# A file.\n".to_vec(rt.alloc())?;
     push_printed(rt.alloc(), three, &mut out)?;
     push_printed(rt.alloc(), SMALL, &mut out)?;
-    let wanted = "# A file.\nx {a, b} [a]\ny {1, 2} [1]\ny | x in {a}\nx {a, b} [b]\ny {1, 2, zwölf} [2]\ny | x in {b}\n{x=a, y=zwölf}\n";
+    let wanted =
+        "# A file.\nx {a, b} [a]\ny {1, 2} [1]\ny | x in {a}\nx {a, b} [b]\ny {1, 2, zwölf} [2]\ny | x in {b}\n{x=a, y=zwölf}\n";
     assert_eq!(rt; out.as_slice(), wanted.as_bytes());
     Ok(())
 }
