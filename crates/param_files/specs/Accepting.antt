@@ -13,7 +13,7 @@ use Rattle.param_space.specs.declared.lists.Part.TheVariants as part
 use Rattle.param_space.specs.declared.lists.SpaceWhat.{SpaceWhat}
 use Rattle.param_space.specs.Space.{Lists, names}
 use Rattle.param_space.specs.Faults.{first_broken, texts_differ, first_in, param_fault, later_params_fault, params_fault, condition_fault, clause_fault, IsSpace, param_rules, condition_rules, clause_rules}
-use Rattle.param_space.specs.Rules.{Hold, rules_hold, none_here}
+use Rattle.param_space.specs.Rules.{rules_hold, none_here, none_broken}
 use Rattle.param_files.specs.declared.statements.Statement.{Statement}
 use Rattle.param_files.specs.declared.statements.Statement.TheVariants.{Nothing, Parameter, Condition as Conditional, Clause}
 use Rattle.param_files.specs.Printing.{value_of}
@@ -22,12 +22,6 @@ use Rattle.param_files.specs.Reading as line
 use Rattle.param_files.specs.Stating.{param_stated, condition_stated, pick_stated, clause_stated, all_stated}
 use Rattle.param_files.specs.Sound.{IsSoundParam, sound_param, sound_params, names_apart}
 use Rattle.param_files.specs.SoundRelations.{sound_condition, sound_clause, condition_apart, clause_apart}
-
--- where the rules hold none is broken
-none_broken : (rules : List (Bool × SpaceWhat)) → Hold rules → first_broken rules ≡ None
-none_broken [] h = refl
-none_broken ((true, what) ∷ rules) h = none_broken rules h.1
-none_broken ((false, what) ∷ rules) h = absurd (cc)
 
 -- each statement keeps the rules of a line, after these and those before it
 abbrev pub AreAccepted : List Statement → List Statement → Type 0

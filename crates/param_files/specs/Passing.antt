@@ -16,7 +16,7 @@ use Rattle.param_space.specs.declared.lists.SpaceWhat.{SpaceWhat}
 use Rattle.param_space.specs.declared.lists.SpaceWhat.TheVariants.{UnknownName, UnknownValue}
 use Rattle.param_space.specs.Space.{value_count}
 use Rattle.param_space.specs.Faults.{first_broken, first_in, texts_differ, numbers_differ, param_rules, param_fault, later_params_fault, params_fault, condition_rules as space_condition_rules, condition_fault, clause_rules as space_clause_rules, clause_fault, whole_fault, space_fault, AreFaultless}
-use Rattle.param_space.specs.Rules.{Hold, rules_hold, none_here}
+use Rattle.param_space.specs.Rules.{rules_hold, none_broken, none_here}
 use Rattle.param_space.specs.Belonging.{few_params, few_values}
 use Rattle.param_files.specs.declared.faults.ParamWhat.{ParamWhat}
 use Rattle.param_files.specs.declared.faults.ParamFault.{ParamFault}
@@ -27,14 +27,6 @@ use Rattle.param_files.specs.Reading.{◌>>=◌, or_fault, unless, of_space, in_
 use Rattle.param_files.specs.Keeping.{AreFew}
 use Rattle.param_files.specs.Formed.{IsFormed, line_formed}
 use Rattle.param_files.specs.Apart.{length-all_some, list_all-all_some, map-all_some, values_apart, picks_apart, param_below, value_below}
-
--- ---- rules
-
--- where they hold none is broken
-none_broken : (rules : List (Bool × SpaceWhat)) → Hold rules → first_broken rules ≡ None
-none_broken [] h = refl
-none_broken ((true, what) ∷ rules) h = none_broken rules h.1
-none_broken ((false, what) ∷ rules) h = absurd (both_ways false refl h.0)
 
 -- ---- lines
 

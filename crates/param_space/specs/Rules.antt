@@ -18,6 +18,12 @@ rules_hold [] h = tt
 rules_hold ((true, what) ∷ rules) h = (refl, rules_hold rules h)
 rules_hold ((false, what) ∷ rules) h = absurd (cc)
 
+-- and where they hold none is broken
+pub none_broken : (rules : List (Bool × SpaceWhat)) → Hold rules → first_broken rules ≡ None
+none_broken [] h = refl
+none_broken ((true, what) ∷ rules) h = none_broken rules h.1
+none_broken ((false, what) ∷ rules) h = absurd (cc)
+
 -- without a fault at a place and later there is none
 pub none_here : (part : Part) (place : ℕ) (what : Option SpaceWhat) (later : Option SpaceFault) → or_later part place what later ≡ None → (what ≡ None) × (later ≡ None)
 none_here part place None later h = (refl, h)
