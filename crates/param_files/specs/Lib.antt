@@ -1,5 +1,6 @@
 pub mod Grammar
 pub mod Reading
+pub mod Causes
 pub mod Keeping
 pub mod Formed
 pub mod Apart
