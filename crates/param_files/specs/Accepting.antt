@@ -1,5 +1,5 @@
 -- The statements of a space keep the rules of lines, one after another.
-use Rattle.std.specs.Prelude.{ℕ, ◌≡◌, ◌+◌, Bool, true, false, not, ◌&&◌, ◌||◌, nat_lt, nat_le, List, [], ◌∷◌, ◌++◌, None, length, map, bytes_eq, All, refl}
+use Rattle.std.specs.Prelude.{ℕ, ◌≡◌, ◌+◌, Bool, true, not, ◌&&◌, ◌||◌, nat_lt, nat_le, List, [], ◌∷◌, ◌++◌, None, length, map, bytes_eq, All, refl}
 use Rattle.std.specs.List.{list_any, filter, slice_index_or}
 use Rattle.std.proofs.Common.{ap, sym, ◌∙◌, subst}
 use Rattle.std.proofs.lemmas.List.{append-nil, append_assoc, length-map, map_push, length_push}
@@ -10,9 +10,8 @@ use Rattle.param_space.specs.declared.lists.Param.{Param}
 use Rattle.param_space.specs.declared.lists.Condition.{Condition}
 use Rattle.param_space.specs.declared.lists.Forbidden.{Forbidden}
 use Rattle.param_space.specs.declared.lists.Part.TheVariants as part
-use Rattle.param_space.specs.declared.lists.SpaceWhat.{SpaceWhat}
 use Rattle.param_space.specs.Space.{Lists, names}
-use Rattle.param_space.specs.Faults.{first_broken, texts_differ, first_in, param_fault, later_params_fault, params_fault, condition_fault, clause_fault, IsSpace, param_rules, condition_rules, clause_rules}
+use Rattle.param_space.specs.Faults.{texts_differ, first_in, param_fault, later_params_fault, params_fault, condition_fault, clause_fault, IsSpace, param_rules, condition_rules, clause_rules}
 use Rattle.param_space.specs.Rules.{rules_hold, none_here, none_broken}
 use Rattle.param_files.specs.declared.statements.Statement.{Statement}
 use Rattle.param_files.specs.declared.statements.Statement.TheVariants.{Nothing, Parameter, Condition as Conditional, Clause}

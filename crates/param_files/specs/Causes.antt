@@ -89,10 +89,10 @@ placed_space stated =
     placed_after (some_params (params_in (map (λ s. s.1) stated))) (λ params. all_numbered params stated >>= λ numbered. whole numbered (lists_of params numbered))
     (placed_params (params_in (map (λ s. s.1) stated)))
     (λ params. placed_after (all_numbered params stated) (λ numbered. whole numbered (lists_of params numbered)) (placed_numbers params stated)
-        (λ numbered. placed_whole numbered (lists_of params numbered) (whole_fault (lists_of params numbered))
-            (found_either (cycle_fault (lists_of params numbered)) (default_fault (lists_of params numbered))
-                (found_in part.Condition (λ _ c. first_broken (cycle_rules (lists_of params numbered) c)) 0 numbered.conditions)
-                (found_in part.Forbidden (λ _ f. first_broken (default_rules (lists_of params numbered) f)) 0 numbered.clauses))))
+    (λ numbered. placed_whole numbered (lists_of params numbered) (whole_fault (lists_of params numbered))
+    (found_either (cycle_fault (lists_of params numbered)) (default_fault (lists_of params numbered))
+    (found_in part.Condition (λ _ c. first_broken (cycle_rules (lists_of params numbered) c)) 0 numbered.conditions)
+    (found_in part.Forbidden (λ _ f. first_broken (default_rules (lists_of params numbered) f)) 0 numbered.clauses))))
 
 -- each text is read as a space, or has a first fault with its line
 pub placed_read : (text : List ℕ) → IsPlaced (params_read text)

@@ -2,7 +2,7 @@
 use Rattle.std.specs.Prelude.{ℕ, ◌≡◌, ◌<◌, ◌≤◌, ◌+◌, Bool, true, false, not, ◌&&◌, ◌||◌, List, [], ◌∷◌, ◌++◌, Option, Some, None, Result, Ok, Err, nat_lt, nat_le, length, map, option_map, bytes_eq, refl}
 use Rattle.std.specs.List.{All, list_any, list_all, filter, position_or_len}
 use Rattle.std.proofs.Common.{ap, sym, ◌∙◌, subst, arith, cond}
-use Rattle.std.proofs.lemmas.Bool.{and_from, and_parts, ltb-true, leb-true, both_ways}
+use Rattle.std.proofs.lemmas.Bool.{and_from, and_parts, ltb-true, leb-true}
 use Rattle.std.proofs.lemmas.Bool.Decides.{nat_tests}
 use Rattle.std.proofs.lemmas.List.{append_assoc, append-nil, length-append, map-append}
 use Rattle.std.proofs.lemmas.List.Elements.{All-nil, All-head, All-tail, All-push, filter-append}

@@ -36,11 +36,11 @@ generation_more cs p g a known named same =
 -- one more number is counted where it passes
 pub count_one : (f : ℕ → Bool) (n : ℕ) → f n ≡ true → count f (n + 1) ≡ count f n + 1
 unfolding count
-count_one f n h = rw add-one (ap (λ b. count f n + cond b 1 0) h)
+count_one f n h = ap (count f) (add-one n) ∙ ap (λ b. count f n + cond b 1 0) h
 
 pub count_none : (f : ℕ → Bool) (n : ℕ) → f n ≡ false → count f (n + 1) ≡ count f n
 unfolding count
-count_none f n h = rw add-one (ap (λ b. count f n + cond b 1 0) h ∙ omega arith)
+count_none f n h = ap (count f) (add-one n) ∙ ap (λ b. count f n + cond b 1 0) h ∙ (let e : count f n + 0 ≡ count f n = omega arith in e)
 
 pub count_start : (f : ℕ → Bool) → count f 0 ≡ 0
 unfolding count

@@ -1,15 +1,15 @@
 -- The text of settings, one setting after another.
-use Rattle.std.proofs.Common.{◌≡◌, ◌<◌, ◌≤◌, ◌+◌, ◌==◌, ◌++◌, ◌∙◌, ℕ, zero, suc, Bool, true, false, cond, List, [], ◌∷◌, length, take, take_all, get_or, refl, sym, ap, arith, append_assoc, add-one}
+use Rattle.std.proofs.Common.{◌≡◌, ◌<◌, ◌≤◌, ◌+◌, ◌==◌, ◌++◌, ◌∙◌, ℕ, Bool, true, false, cond, List, [], ◌∷◌, length, get_or, refl, sym, ap, arith, append_assoc}
 use Rattle.std.specs.Prelude.{codes}
 use Rattle.std.specs.List.{slice_index_or}
 use Rattle.std.proofs.lemmas.Bool.Decides.{nat_tests}
-use Rattle.std.proofs.lemmas.List.{get_or_read, append-nil, length-append}
+use Rattle.std.proofs.lemmas.List.{get_or_read, length-append}
 use Rattle.param_space.specs.declared.lists.Param.{Param}
 use Rattle.param_space.specs.Configurations.{is_active}
 use Rattle.param_space.specs.Space.{Lists, Belongs}
 use Rattle.param_space.specs.Settings.{named_values, at_places, active_values, setting_text, settings_text, with_setting}
 use Rattle.param_space.specs.ActiveValues.{named, values_until, passing_more, until_all}
-use Rattle.param_space.specs.Belonging.{length-Belongs, read_value_in_range}
+use Rattle.param_space.specs.Belonging.{read_value_in_range}
 
 settings_text-more : (s : List ℕ × List ℕ) (ss : List (List ℕ × List ℕ)) (t : List ℕ × List ℕ)
     → settings_text (s ∷ ss ++ t ∷ []) ≡ settings_text (s ∷ ss) ++ (codes " " ++ setting_text t)

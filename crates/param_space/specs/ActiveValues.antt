@@ -53,9 +53,9 @@ until_more passes params values i d b h lt mark =
     let here = named (get_or params i d) (get_or values i 0) in
     let place : 0 + length so_far ≡ i = omega (arith, length-named_values params values i (omega (arith, lt)) (omega (arith, lt, long))) in
     rw add-one (ap (at_places passes 0) (named_values-more params values i d lt (omega (arith, lt, long)))
-        ∙ at_places-more passes 0 so_far here
-        ∙ ap (λ k. at_places passes 0 so_far ++ cond (passes k) (here ∷ []) []) place
-        ∙ ap (λ c. at_places passes 0 so_far ++ cond c (here ∷ []) []) mark)
+    ∙ at_places-more passes 0 so_far here
+    ∙ ap (λ k. at_places passes 0 so_far ++ cond (passes k) (here ∷ []) []) place
+    ∙ ap (λ c. at_places passes 0 so_far ++ cond c (here ∷ []) []) mark)
 
 pub passing_more : (passes : ℕ → Bool) (params : List Param) (values : List ℕ) (i : ℕ) (d : Param) → Belongs params values → i < length params → passes i ≡ true
     → values_until passes params values (i + 1) ≡ values_until passes params values i ++ named (get_or params i d) (get_or values i 0) ∷ []

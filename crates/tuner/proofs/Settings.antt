@@ -1,6 +1,5 @@
 -- The settings of a configuration, one after another.
-use Rattle.std.proofs.Common.{◌≡◌, ◌<◌, ◌≤◌, ◌+◌, ◌++◌, ◌∙◌, ℕ, Bool, true, false, List, [], ◌∷◌, length, get_or, map, sym, ap, arith}
-use Rattle.std.specs.List.{slice_index_or}
+use Rattle.std.proofs.Common.{◌≡◌, ◌<◌, ◌≤◌, ◌+◌, ◌++◌, ◌∙◌, ℕ, true, false, List, [], ◌∷◌, length, get_or, map, sym, ap}
 use Rattle.std.proofs.lemmas.List.{get_or_read, map-append}
 use Rattle.outside.specs.declared.runs.Setting.{Setting}
 use Rattle.param_space.specs.declared.lists.Param.{Param}
@@ -31,13 +30,13 @@ setting_more space config i p texts k text name value before after r active text
     let same_texts : texts ≡ (get_or space.params i p).values = texts-are ∙ ap (λ q. q.values) r.is in
     let same_name : name ≡ (get_or space.params i p).name = name-is ∙ ap (λ q. q.name) r.is in
     let same_value : value ≡ get_or (get_or space.params i p).values (get_or config i 0) [] =
-        value-is ∙ get_or_read texts (get_or config i 0) text below at [] ∙ ap (λ xs. get_or xs (get_or config i 0) []) same_texts in
+    value-is ∙ get_or_read texts (get_or config i 0) text below at [] ∙ ap (λ xs. get_or xs (get_or config i 0) []) same_texts in
     let next : Setting → List Setting = λ s. settings_until space config i ++ s ∷ [] in
     made ∙ ap (λ ss. ss ++ record { name = name; value = value } ∷ []) so_far
     ∙ ap (λ n. next (record { name = n; value = value })) same_name
     ∙ ap (λ v. next (record { name = (get_or space.params i p).name; value = v })) same_value
     ∙ sym (ap (map setting_from) (passing_more (is_active space config) space.params config i p r.belongs r.within active)
-        ∙ map-append setting_from (values_until (is_active space config) space.params config i) (named (get_or space.params i p) (get_or config i 0) ∷ []))
+    ∙ map-append setting_from (values_until (is_active space config) space.params config i) (named (get_or space.params i p) (get_or config i 0) ∷ []))
 
 -- any other adds nothing
 pub setting_left_out : (space : Lists) (config : List ℕ) (i : ℕ) (p : Param) → IsReading space config i p → is_active space config i ≡ false → settings_until space config (i + 1) ≡ settings_until space config i

@@ -1,10 +1,10 @@
 -- The accepted words and files, as lists of bytes.
-use Rattle.std.specs.Prelude.{ℕ, ◌-◌, ◌==◌, Bool, true, false, not, ◌&&◌, ◌||◌, List, [], ◌∷◌, length, nat_le, nat_lt, Option, Some, None, if◌then◌else◌, codes, bytes_eq, position}
-use Rattle.std.specs.List.{list_any, list_all, slice_index_or, slice_split}
+use Rattle.std.specs.Prelude.{ℕ, ◌-◌, ◌==◌, Bool, true, false, not, ◌&&◌, ◌||◌, List, [], ◌∷◌, length, nat_le, nat_lt, Option, Some, None, if◌then◌else◌, codes, bytes_eq}
+use Rattle.std.specs.List.{list_any, list_all, slice_index_or}
 use Rattle.std.specs.Str.{is_utf8}
 use Rattle.plain_text.specs.Words.{is_blank, is_control, is_word}
 use Rattle.plain_text.specs.Decimals.{count_of}
-use Rattle.plain_text.specs.Parts.{after_prefix, before_suffix, parted, ended_lines}
+use Rattle.plain_text.specs.Parts.{after_prefix, parted, ended_lines}
 
 infixl 10 ◌>>=◌
 -- one reading after another, which takes its value

@@ -73,8 +73,9 @@ fn inactive_parameters_are_not_passed_on(rt: HostRuntime) -> Result<(), Fail> {
     let alloc = rt.alloc();
     // Where x is b, y is inactive; the clause is of no such configuration.
     for (default, wanted, words) in [("b", "x=b", 8), ("a", "x=a y=1", 10)] {
-        let text =
-            format!(in alloc; "x {{a, b}} [{default}]\ny {{1, 2}} [1]\nForbidden:\n{{x=b, y=1}}\nConditionals:\ny | x in {{a}}")?;
+        let text = format!(in alloc;
+            "x {{a, b}} [{default}]\ny {{1, 2}} [1]\nForbidden:\n{{x=b, y=1}}\nConditionals:\ny | x in {{a}}"
+        )?;
         let mut files = folder(alloc)?;
         files.put("p", text.as_bytes())?;
         let mut seats = [Seat::new(TableSeat::<Two>::new(alloc, quiet(alloc)?)?)];

@@ -1,4 +1,4 @@
-use Rattle.std.proofs.Common.{◌≡◌, ◌≤◌, ◌<◌, ◌∙◌, ap, arith, length, get_or, sym}
+use Rattle.std.proofs.Common.{◌≤◌, ◌<◌, ◌∙◌, ap, arith, length, get_or, sym}
 use Rattle.param_space.specs.Belonging.{length-Belongs, few_params, read_value_in_range}
 use Rattle.tuner.proofs.Settings.{IsReading, setting_more, setting_left_out, all_settings}
 use Rattle.tuner.proofs.problem.settings_of.Goals as goal
@@ -35,8 +35,8 @@ loop-i-preserved c =
       | then-is_active+in_ok-copy+in_ok-copy-2+in_ok-push w ↦
           ap (λ v. v.items) w.settings-is
           ∙ setting_more space config i c.param-item.result w.as_slice.result.now w.from.result w.index-as_slice-from.result w.in_ok-copy.field-0 w.in_ok-copy-2.field-0 c.loop-i.settings.items w.push.new.self.items here
-              (sym c.is_active.ensures ∙ w.if-is_active.true) w.as_slice.ensures (w.from.ensures ∙ ap (λ vs. get_or vs i 0) c.values-values.ensures) w.index-as_slice-from.is
-              w.in_ok-copy.ensures w.in_ok-copy-2.ensures c.loop-i.invariant w.in_ok-push.ensures.items
+          (sym c.is_active.ensures ∙ w.if-is_active.true) w.as_slice.ensures (w.from.ensures ∙ ap (λ vs. get_or vs i 0) c.values-values.ensures) w.index-as_slice-from.is
+          w.in_ok-copy.ensures w.in_ok-copy-2.ensures c.loop-i.invariant w.in_ok-push.ensures.items
       | else-is_active w ↦
           ap (λ v. v.items) w.settings-is ∙ c.loop-i.invariant ∙ sym (setting_left_out space config i c.param-item.result here (sym c.is_active.ensures ∙ w.if-is_active.false))
     ]
