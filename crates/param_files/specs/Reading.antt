@@ -3,6 +3,7 @@ use Rattle.std.specs.Prelude.{ℕ, ◌≡◌, ◌&&◌, Bool, true, false, not, 
 use Rattle.std.specs.List.{list_any, filter, position_or_len}
 use Rattle.std.specs.Str.{is_utf8}
 use Rattle.plain_text.specs.Lines.{numbered_lines}
+pub use Rattle.plain_text.specs.Results.{◌>>=◌, or_fault}
 use Rattle.plain_text.specs.Tokens.{token_texts}
 use Rattle.param_space.specs.declared.lists.Param.{Param}
 use Rattle.param_space.specs.declared.lists.Condition as condition
@@ -24,17 +25,6 @@ use Rattle.param_files.specs.declared.statements.NamedPick.{NamedPick}
 use Rattle.param_files.specs.declared.statements.Statement.{Statement}
 use Rattle.param_files.specs.declared.statements.Statement.TheVariants.{Nothing, Parameter, Condition, Clause}
 use Rattle.param_files.specs.Grammar.{statement_of}
-
-infixl 10 ◌>>=◌
--- one reading after another, which takes its value
-abbrev pub ◌>>=◌ : {A B E : Type 0} → Result A E → (A → Result B E) → Result B E
-Ok x >>= f = f x
-Err e >>= f = Err e
-
--- a value that is there, or else this fault
-abbrev pub or_fault : {A E : Type 0} → E → Option A → Result A E
-or_fault e None = Err e
-or_fault e (Some x) = Ok x
 
 -- the value, or else the fault that there is
 abbrev pub unless : {A : Type 0} → Option SpaceWhat → A → Result A ParamWhat

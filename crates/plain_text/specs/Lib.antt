@@ -9,3 +9,5 @@ pub mod TokenTexts
 pub mod Lines
 pub mod LinePlaces
 pub mod LineTexts
+pub mod Trimming
+pub mod Results

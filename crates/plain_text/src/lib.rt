@@ -11,6 +11,7 @@ mod tests;
 mod text;
 mod times;
 mod tokenizer;
+mod trimming;
 mod words;
 
 pub use breaks::{Line, TextLines, lines, numbered_lines};
@@ -21,4 +22,5 @@ pub use parts::{ended_lines, pieces};
 pub use text::Text;
 pub use times::{TimeFault, read_micros};
 pub use tokenizer::{Token, token_texts, tokens};
+pub use trimming::{after_word, end_trimmed, first_word, front_trimmed, trimmed};
 pub use words::{is_blank, is_word, is_word_byte};
