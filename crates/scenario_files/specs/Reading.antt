@@ -17,11 +17,29 @@ use Rattle.scenario_files.specs.Values.{◌>>=◌, with_key}
 -- no key is given
 abbrev pub nothing : Draft
 nothing = record {
-  algo = None; execdir = None; deterministic = None; run_obj = None; overall_obj = None;
-  cutoff_time = None; cutoff_length = None; tuner_timeout = None; paramfile = None; outdir = None;
-  valid_n = None; instance_file = None; test_instance_file = None; approach = None; n = None;
-  num_run = None; max_comparisons = None; workers = None; r = None; s = None;
-  p_restart = None; cap_floor = None; pair_order = None;
+  algo = None;
+  execdir = None;
+  deterministic = None;
+  run_obj = None;
+  overall_obj = None;
+  cutoff_time = None;
+  cutoff_length = None;
+  tuner_timeout = None;
+  paramfile = None;
+  outdir = None;
+  valid_n = None;
+  instance_file = None;
+  test_instance_file = None;
+  approach = None;
+  n = None;
+  num_run = None;
+  max_comparisons = None;
+  workers = None;
+  r = None;
+  s = None;
+  p_restart = None;
+  cap_floor = None;
+  pair_order = None;
 }
 
 -- a fault with its line

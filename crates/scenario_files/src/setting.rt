@@ -5,10 +5,16 @@ ghost use Rattle.scenario_files.specs.Values.{is_given, text_of as text_in, with
 use crate::draft::Draft;
 use crate::faults::{Refused, ScenarioWhat};
 use crate::keys::Key;
-use crate::values::is_empty;
+use crate::values::{
+    approach_of, count_within, cutoff_length_of, flag_of, is_empty, overall_of, pair_order_of,
+    run_obj_of, share_of, time_within,
+};
 use objective::Memory;
 use plain_text::Text;
 use std::alloc::Global;
+
+/// The greatest cutoff time, in microseconds.
+const MAX_CUTOFF: u64 = 1_000_000_000_000;
 
 impl From<ScenarioWhat> for Refused {
     ghost use Rattle.scenario_files.specs.declared.faults.Refused.TheVariants.{Value};
@@ -64,21 +70,6 @@ impl Draft {
     }
 }
 
-/// Puts a value that was read into its place. Fails as the reading did.
-fn put<T: Drop>(place: &mut Option<T>, value: Result<T, Refused>) -> Result<(), Refused>
-    ensures value { OnOk result (IfOk value (λ x. place.new ≡ Some x)) }
-    ensures variant { is_ok result ≡ is_ok value }
-    ensures fault { IfErr result (λ e. value ≡ Err e) }
-{
-    match value {
-        Ok(x) => {
-            *place = Some(x);
-            Ok(())
-        }
-        Err(e) => Err(e),
-    }
-}
-
 impl Draft {
     /// Puts a key at what its value is read as.
     #[tactic(auto, unfolding(crate::specs::Values::with_value))]
@@ -87,29 +78,30 @@ impl Draft {
         ensures fault { IfErr result (λ e. IsRefusal e (with_value self.old key text.now)) }
     {
         match key {
-            Key::Algo => put(&mut self.algo, text_of(alloc, text)),
-            Key::Execdir => put(&mut self.execdir, text_of(alloc, text)),
-            Key::Deterministic => put(&mut self.deterministic, flag_of(text)),
-            Key::RunObj => put(&mut self.run_obj, run_obj_of(text)),
-            Key::OverallObj => put(&mut self.overall_obj, overall_of(text)),
-            Key::CutoffTime => put(&mut self.cutoff_time, time_within(1, MAX_CUTOFF, text)),
-            Key::CutoffLength => put(&mut self.cutoff_length, cutoff_length_of(text)),
-            Key::TunerTimeout => put(&mut self.tuner_timeout, Ok(Text::of(alloc, text)?)),
-            Key::Paramfile => put(&mut self.paramfile, text_of(alloc, text)),
-            Key::Outdir => put(&mut self.outdir, Ok(Text::of(alloc, text)?)),
-            Key::ValidN => put(&mut self.valid_n, Ok(Text::of(alloc, text)?)),
-            Key::InstanceFile => put(&mut self.instance_file, text_of(alloc, text)),
-            Key::TestInstanceFile => put(&mut self.test_instance_file, text_of(alloc, text)),
-            Key::Approach => put(&mut self.approach, approach_of(text)),
-            Key::N => put(&mut self.n, count_within(1, 10_000, text)),
-            Key::NumRun => put(&mut self.num_run, count_within(0, u32::MAX, text)),
-            Key::MaxComparisons => put(&mut self.max_comparisons, count_within(0, 100_000, text)),
-            Key::Workers => put(&mut self.workers, count_within(1, 64, text)),
-            Key::R => put(&mut self.r, count_within(0, 1000, text)),
-            Key::S => put(&mut self.s, count_within(1, 100, text)),
-            Key::PRestart => put(&mut self.p_restart, share_of(text)),
-            Key::CapFloor => put(&mut self.cap_floor, time_within(1, u64::MAX, text)),
-            Key::PairOrder => put(&mut self.pair_order, pair_order_of(text)),
+            Key::Algo => self.algo = Some(text_of(alloc, text)?),
+            Key::Execdir => self.execdir = Some(text_of(alloc, text)?),
+            Key::Deterministic => self.deterministic = Some(flag_of(text)?),
+            Key::RunObj => self.run_obj = Some(run_obj_of(text)?),
+            Key::OverallObj => self.overall_obj = Some(overall_of(text)?),
+            Key::CutoffTime => self.cutoff_time = Some(time_within(1, MAX_CUTOFF, text)?),
+            Key::CutoffLength => self.cutoff_length = Some(cutoff_length_of(text)?),
+            Key::TunerTimeout => self.tuner_timeout = Some(Text::of(alloc, text)?),
+            Key::Paramfile => self.paramfile = Some(text_of(alloc, text)?),
+            Key::Outdir => self.outdir = Some(Text::of(alloc, text)?),
+            Key::ValidN => self.valid_n = Some(Text::of(alloc, text)?),
+            Key::InstanceFile => self.instance_file = Some(text_of(alloc, text)?),
+            Key::TestInstanceFile => self.test_instance_file = Some(text_of(alloc, text)?),
+            Key::Approach => self.approach = Some(approach_of(text)?),
+            Key::N => self.n = Some(count_within(1, 10_000, text)?),
+            Key::NumRun => self.num_run = Some(count_within(0, u32::MAX, text)?),
+            Key::MaxComparisons => self.max_comparisons = Some(count_within(0, 100_000, text)?),
+            Key::Workers => self.workers = Some(count_within(1, 64, text)?),
+            Key::R => self.r = Some(count_within(0, 1000, text)?),
+            Key::S => self.s = Some(count_within(1, 100, text)?),
+            Key::PRestart => self.p_restart = Some(share_of(text)?),
+            Key::CapFloor => self.cap_floor = Some(time_within(1, u64::MAX, text)?),
+            Key::PairOrder => self.pair_order = Some(pair_order_of(text)?),
         }
+        Ok(())
     }
 }
