@@ -1,4 +1,6 @@
 //! What a file or words give of a scenario.
+ghost use Rattle.std.specs.Prelude.{◌≡◌};
+ghost use Rattle.scenario_files.specs.Reading.{nothing};
 
 use objective::Micros;
 use plain_text::Text;
@@ -66,4 +68,37 @@ pub struct Draft {
     pub p_restart: Option<u16>,
     pub cap_floor: Option<Micros>,
     pub pair_order: Option<PairOrder>,
+}
+
+impl Draft {
+    /// No key is given.
+    pub(crate) fn nothing() -> Draft
+        ensures { result ≡ nothing }
+    {
+        Draft {
+            algo: None,
+            execdir: None,
+            deterministic: None,
+            run_obj: None,
+            overall_obj: None,
+            cutoff_time: None,
+            cutoff_length: None,
+            tuner_timeout: None,
+            paramfile: None,
+            outdir: None,
+            valid_n: None,
+            instance_file: None,
+            test_instance_file: None,
+            approach: None,
+            n: None,
+            num_run: None,
+            max_comparisons: None,
+            workers: None,
+            r: None,
+            s: None,
+            p_restart: None,
+            cap_floor: None,
+            pair_order: None,
+        }
+    }
 }

@@ -11,10 +11,13 @@ mod draft;
 mod faults;
 mod filling;
 mod keys;
+mod reader;
 mod setting;
+mod trimming;
 mod values;
 
 pub use call::Words;
 pub use draft::{Approach, Draft, Overall, PairOrder, RunObj};
 pub use faults::{ScenarioFault, ScenarioWhat, WordFault};
 pub use filling::Scenario;
+pub use reader::read_scenario;

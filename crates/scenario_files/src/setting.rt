@@ -104,4 +104,16 @@ impl Draft {
         }
         Ok(())
     }
+
+    /// Takes a key with its value. Fails where the key was given before, or with what is
+    /// wrong with the value; then nothing is known of the draft.
+    pub(crate) fn set(&mut self, alloc: Global, key: Key, text: &str) -> Result<(), Refused>
+        ensures value { OnOk result (with_key self.old key text.now ≡ Ok self.new) }
+        ensures fault { IfErr result (λ e. IsRefusal e (with_key self.old key text.now)) }
+    {
+        if self.has(key) {
+            return Err(Refused::Value(ScenarioWhat::Twice));
+        }
+        self.set_value(alloc, key, text)
+    }
 }
