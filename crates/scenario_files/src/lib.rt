@@ -16,8 +16,8 @@ mod setting;
 mod trimming;
 mod values;
 
-pub use call::Words;
+pub use call::{Words, read_words};
 pub use draft::{Approach, Draft, Overall, PairOrder, RunObj};
 pub use faults::{ScenarioFault, ScenarioWhat, WordFault};
-pub use filling::Scenario;
+pub use filling::{Scenario, fill};
 pub use reader::read_scenario;

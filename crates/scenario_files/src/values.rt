@@ -12,7 +12,7 @@ use objective::Micros;
 use plain_text::{TimeFault, is_blank, read_count, read_micros};
 
 /// The greatest cutoff length, which `max` stands for.
-const MAX_LENGTH: u32 = 2_147_483_647;
+pub(crate) const MAX_LENGTH: u32 = 2_147_483_647;
 
 /// Whether the text has nothing but blanks.
 pub(crate) fn is_empty(text: &str) -> bool
