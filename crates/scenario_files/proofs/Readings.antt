@@ -1,5 +1,5 @@
 -- What a line and lines one after another give.
-use Rattle.std.proofs.Common.{ℕ, ◌≡◌, ◌-◌, true, false, List, [], ◌∷◌, Result, Ok, Err, map, length, take, drop, refl, ap, sym, ◌∙◌}
+use Rattle.std.proofs.Common.{ℕ, ◌≡◌, ◌-◌, true, false, List, [], ◌∷◌, Result, Ok, Err, map, take, drop, refl, ap, sym, ◌∙◌}
 use Rattle.std.specs.Str.{IsUtf8, is_utf8}
 use Rattle.std.proofs.lemmas.Bool.{false_from_ne_true}
 use Rattle.std.proofs.lemmas.Str.{IsUtf8-from_is_utf8, is_utf8-from_IsUtf8}

@@ -1,5 +1,5 @@
 -- A scenario of eleven lines, worked; and faults of files and of words.
-use Rattle.std.specs.Prelude.{ℕ, ◌≡◌, ◌^◌, List, [], ◌∷◌, ◌++◌, Some, None, Ok, Err, false, refl, codes}
+use Rattle.std.specs.Prelude.{ℕ, ◌≡◌, List, [], ◌∷◌, ◌++◌, Some, None, Ok, Err, false, refl, codes}
 use Rattle.std.specs.Str.{is_utf8, chars}
 use Rattle.plain_text.specs.Lines.{numbered_lines, lines_of}
 use Rattle.plain_text.specs.Times.{micros_read, read_parts, shifts, power_shifts, power_size, micros_of, in_range}

@@ -1,5 +1,5 @@
 -- A scenario from a file and words: each key is taken of the words, else of the file, else by default.
-use Rattle.std.specs.Prelude.{ℕ, ◌≡◌, Bool, false, Option, Some, None, Result, Ok, Err, codes}
+use Rattle.std.specs.Prelude.{false, Option, Some, None, Result, Ok, Err, codes}
 use Rattle.std.specs.Option.{option_or, unwrap_or}
 use Rattle.scenario_files.specs.declared.draft.Draft.{Draft}
 use Rattle.scenario_files.specs.declared.draft.RunObj.TheVariants.{Runtime}

@@ -1,7 +1,7 @@
 //! The words of a call.
 ghost use Rattle.std.specs.Prelude.{◌≡◌, Ok, IfOk, IfErr, OnOk};
 ghost use Rattle.scenario_files.specs.Values.{IsRefusal};
-ghost use Rattle.scenario_files.specs.Words.{none_given, with_file, with_pair, at_place, words_read, IsWordFault};
+ghost use Rattle.scenario_files.specs.Words.{none_given, with_file, with_pair, at_place, named, words_read, IsWordFault};
 
 use crate::draft::Draft;
 use crate::faults::{Refused, ScenarioWhat, WordFault};
@@ -52,7 +52,13 @@ impl Given {
     }
 
     /// Takes the pair at this place.
-    fn add_pair(&mut self, alloc: Global, place: u32, word: &str, value: &str) -> Result<(), WordFault>
+    fn add_pair(
+        &mut self,
+        alloc: Global,
+        place: u32,
+        word: &str,
+        value: &str,
+    ) -> Result<(), WordFault>
         ensures value { OnOk result (with_pair self.old word.now value.now ≡ Ok self.new) }
         ensures fault { IfErr result (λ e. IsWordFault e (at_place place (with_pair self.old word.now value.now))) }
     {
@@ -60,6 +66,38 @@ impl Given {
             Ok(()) => Ok(()),
             Err(Refused::Value(_)) => Err(WordFault::At { place }),
             Err(Refused::Memory) => Err(WordFault::Memory),
+        }
+    }
+
+    /// Takes all pairs of these words, and tells how many words there are.
+    fn add_pairs(&mut self, alloc: Global, words: &[Text]) -> Result<u32, WordFault>
+        requires { self.old ≡ none_given }
+        ensures value { IfOk result (λ n. words_read words.now ≡ named n self.new.draft self.new.file) }
+        ensures fault { IfErr result (λ e. IsWordFault e (words_read words.now)) }
+    {
+        let mut taken = 0;
+        while let [word, value, ..] = &words[taken..] {
+            self.add_pair(alloc, taken as u32, word.as_str(), value.as_str())?;
+            taken += 2;
+        }
+        let place = taken as u32;
+        if taken < words.len() {
+            return Err(WordFault::At { place });
+        }
+        Ok(place)
+    }
+
+    /// All that was given. Fails where the file's name never came.
+    fn named(self, place: u32) -> Result<Words, WordFault>
+        ensures { result ≡ named place self.draft self.file }
+    {
+        let Given { file, draft } = self;
+        match file {
+            Some(scenario_file) => Ok(Words {
+                scenario_file,
+                draft,
+            }),
+            None => Err(WordFault::At { place }),
         }
     }
 }
@@ -79,18 +117,6 @@ pub fn read_words(alloc: Global, words: &[Text]) -> Result<Words, WordFault>
         file: None,
         draft: Draft::nothing(),
     };
-    let mut taken = 0;
-    while let [word, value, ..] = &words[taken..] {
-        given.add_pair(alloc, taken as u32, word.as_str(), value.as_str())?;
-        taken += 2;
-    }
-    match given.file {
-        Some(scenario_file) if taken == words.len() => Ok(Words {
-            scenario_file,
-            draft: given.draft,
-        }),
-        _ => Err(WordFault::At {
-            place: taken as u32,
-        }),
-    }
+    let place = given.add_pairs(alloc, words)?;
+    given.named(place)
 }

@@ -1,4 +1,4 @@
-use Rattle.std.proofs.Common.{◌≡◌, true, get_or, ◌-◌, length, ◌≤◌, ap, ◌∙◌, sym, subst}
+use Rattle.std.proofs.Common.{◌≡◌, true, get_or, ◌-◌, length, ◌≤◌, subst}
 use Rattle.plain_text.specs.Words.{is_blank}
 use Rattle.scenario_files.proofs.Cuts.{cut_after_blank}
 use Rattle.scenario_files.proofs.trimming.trimmed.Goals as goal
