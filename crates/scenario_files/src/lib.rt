@@ -13,6 +13,8 @@ mod filling;
 mod keys;
 mod reader;
 mod setting;
+#[cfg(test)]
+mod tests;
 mod trimming;
 mod values;
 
