@@ -1,0 +1,4 @@
+pub mod Cuts
+pub mod Readings
+pub mod Counting
+pub mod Pairs

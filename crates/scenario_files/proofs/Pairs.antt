@@ -1,0 +1,57 @@
+-- Pairs of words one after another.
+use Rattle.std.proofs.Common.{ℕ, ◌≡◌, ◌<◌, ◌≤◌, ◌+◌, ◌-◌, List, [], ◌∷◌, Result, Ok, Err, length, get_or, take, drop, ap, sym, ◌∙◌, arith}
+use Rattle.std.proofs.lemmas.List.{drop_more, drop_all, take_rest, get_or-drop, length-drop}
+use Rattle.scenario_files.specs.declared.call.Given.{Given}
+use Rattle.scenario_files.specs.declared.faults.WordFault.{WordFault}
+use Rattle.scenario_files.specs.declared.faults.WordFault.TheVariants.{At, Memory}
+use Rattle.scenario_files.specs.Values.{◌>>=◌}
+use Rattle.scenario_files.specs.Words.{with_pair, at_place, named, with_words, IsWordFault}
+
+-- what is left from a place on
+abbrev pub left : List (List ℕ) → ℕ → List (List ℕ)
+left ws n = take (length ws - n) (drop n ws)
+
+-- the word at a place of what is left
+word_at : (ws : List (List ℕ)) (n i : ℕ) (w : List ℕ) → w ≡ get_or (left ws n) i w → w ≡ get_or ws (n + i) w
+word_at ws n i w is = is ∙ ap (λ xs. get_or xs i w) (take_rest ws n) ∙ get_or-drop n ws i w
+
+-- a pair at the head of what is left
+pub pair_left : (ws : List (List ℕ)) (n : ℕ) (w v : List ℕ) → 2 ≤ length (left ws n) → w ≡ get_or (left ws n) 0 w → v ≡ get_or (left ws n) 1 v → drop n ws ≡ w ∷ v ∷ drop (n + 2) ws
+pair_left ws n w v some first second =
+    let many : n + 2 ≤ length ws = omega (arith, some, ap length (take_rest ws n), length-drop n ws) in
+    let one : n + 0 ≡ n = omega arith in
+    let two : n + 1 + 1 ≡ n + 2 = omega arith in
+    drop_more ws n w (omega (arith, many))
+    ∙ ap (λ x. x ∷ drop (n + 1) ws) (sym (word_at ws n 0 w first ∙ ap (λ m. get_or ws m w) one))
+    ∙ ap (λ xs. w ∷ xs) (drop_more ws (n + 1) v (omega (arith, many)) ∙ ap (λ x. x ∷ drop (n + 1 + 1) ws) (sym (word_at ws n 1 v second)) ∙ ap (λ m. v ∷ drop m ws) two)
+
+-- a pair that is left stands in the whole
+pub pair_within : (ws : List (List ℕ)) (n : ℕ) → n ≤ length ws → 2 ≤ length (left ws n) → n + 2 ≤ length ws
+pair_within ws n within some = omega (arith, some, within, ap length (take_rest ws n), length-drop n ws)
+
+-- a pair that is taken
+pub pair_taken : (n : ℕ) (g h : Given) (w v : List ℕ) (later : List (List ℕ)) → with_pair g w v ≡ Ok h → with_words n g (w ∷ v ∷ later) ≡ with_words (n + 2) h later
+unfolding with_words
+pair_taken n g h w v later is = ap (λ r. at_place n r >>= λ x. with_words (n + 2) x later) is
+
+-- a pair that is wrong
+pub pair_stops : (n : ℕ) (g : Given) (w v : List ℕ) (later : List (List ℕ)) (f : WordFault) → at_place n (with_pair g w v) ≡ Err f → with_words n g (w ∷ v ∷ later) ≡ Err f
+unfolding with_words
+pair_stops n g w v later f is = ap (λ r. r >>= λ x. with_words (n + 2) x later) is
+
+-- a word without a value
+pub one_left : (ws : List (List ℕ)) (n : ℕ) (g : Given) → length (left ws n) < 2 → n < length ws → with_words n g (drop n ws) ≡ Err (At n)
+unfolding with_words
+one_left ws n g few some =
+    let last : length ws ≤ n + 1 = omega (arith, few, ap length (take_rest ws n), length-drop n ws) in
+    ap (with_words n g) (drop_more ws n [] some ∙ ap (λ xs. get_or ws n [] ∷ xs) (drop_all (n + 1) ws last))
+
+-- no word
+pub none_left : (ws : List (List ℕ)) (n : ℕ) (g : Given) → length ws ≤ n → with_words n g (drop n ws) ≡ named n g.draft g.file
+unfolding with_words
+none_left ws n g past = ap (with_words n g) (drop_all n ws past)
+
+-- a fault in one reading is one in another
+pub fault_moves : {A B : Type 0} (e : WordFault) (r : Result A WordFault) (q : Result B WordFault) → ((f : WordFault) → r ≡ Err f → q ≡ Err f) → IsWordFault e r → IsWordFault e q
+fault_moves (At place) r q moves h = moves (At place) h
+fault_moves Memory r q moves h = tt

@@ -1,0 +1,6 @@
+pub mod Keys
+pub mod Values
+pub mod Reading
+pub mod Words
+pub mod Filling
+pub mod Example

@@ -1,0 +1,145 @@
+//! A scenario with its defaults filled in.
+ghost use Rattle.std.specs.Prelude.{◌≡◌, Ok, IfOk, IfErr, codes};
+ghost use Rattle.std.specs.Option.{unwrap_or};
+ghost use Rattle.scenario_files.specs.declared.faults.ScenarioFault.TheVariants.{Memory as NoMemory};
+ghost use Rattle.scenario_files.specs.Reading.{IsReadingFault};
+ghost use Rattle.scenario_files.specs.Filling.{either as either_of, required as required_of, completed, filled};
+
+use crate::draft::{Approach, Draft, Overall, PairOrder, RunObj};
+use crate::faults::{ScenarioFault, ScenarioWhat};
+use crate::values::MAX_LENGTH;
+use objective::Micros;
+use plain_text::Text;
+use std::alloc::Global;
+
+/// A scenario: each key's value, or its default. An `Option` is None where the key is not
+/// given and has no default. `p_restart` counts ten-thousandths. `cap_floor` is what was
+/// given: the lesser of it and the cutoff time counts, which is for those who make limits of
+/// the two.
+#[derive(Drop)]
+pub struct Scenario {
+    pub algo: Text,
+    pub execdir: Text,
+    pub deterministic: bool,
+    pub run_obj: RunObj,
+    pub overall_obj: Overall,
+    pub cutoff_time: Micros,
+    pub cutoff_length: u32,
+    pub tuner_timeout: Option<Text>,
+    pub paramfile: Text,
+    pub outdir: Option<Text>,
+    pub valid_n: Option<Text>,
+    pub instance_file: Text,
+    pub test_instance_file: Option<Text>,
+    pub approach: Approach,
+    pub n: u32,
+    pub num_run: u32,
+    pub max_comparisons: u32,
+    pub workers: u32,
+    pub r: u32,
+    pub s: u32,
+    pub p_restart: u16,
+    pub cap_floor: Micros,
+    pub pair_order: PairOrder,
+}
+
+/// Each key of the first draft, or else of the second.
+fn either(first: Draft, second: Draft) -> Draft
+    ensures { result ≡ either_of first second }
+{
+    Draft {
+        algo: first.algo.or(second.algo),
+        execdir: first.execdir.or(second.execdir),
+        deterministic: first.deterministic.or(second.deterministic),
+        run_obj: first.run_obj.or(second.run_obj),
+        overall_obj: first.overall_obj.or(second.overall_obj),
+        cutoff_time: first.cutoff_time.or(second.cutoff_time),
+        cutoff_length: first.cutoff_length.or(second.cutoff_length),
+        tuner_timeout: first.tuner_timeout.or(second.tuner_timeout),
+        paramfile: first.paramfile.or(second.paramfile),
+        outdir: first.outdir.or(second.outdir),
+        valid_n: first.valid_n.or(second.valid_n),
+        instance_file: first.instance_file.or(second.instance_file),
+        test_instance_file: first.test_instance_file.or(second.test_instance_file),
+        approach: first.approach.or(second.approach),
+        n: first.n.or(second.n),
+        num_run: first.num_run.or(second.num_run),
+        max_comparisons: first.max_comparisons.or(second.max_comparisons),
+        workers: first.workers.or(second.workers),
+        r: first.r.or(second.r),
+        s: first.s.or(second.s),
+        p_restart: first.p_restart.or(second.p_restart),
+        cap_floor: first.cap_floor.or(second.cap_floor),
+        pair_order: first.pair_order.or(second.pair_order),
+    }
+}
+
+/// A value that there must be.
+fn required<T: Drop>(value: Option<T>) -> Result<T, ScenarioFault>
+    ensures { result ≡ required_of value }
+{
+    match value {
+        Some(x) => Ok(x),
+        None => Err(ScenarioFault::At {
+            line: 0,
+            what: ScenarioWhat::Missing,
+        }),
+    }
+}
+
+/// The folder that is given, or the present one.
+fn folder(alloc: Global, given: Option<Text>) -> Result<Text, ScenarioFault>
+    ensures value { IfOk result (λ t. t ≡ unwrap_or given (codes ".")) }
+    ensures fault { IfErr result (λ e. e ≡ NoMemory) }
+{
+    match given {
+        Some(dir) => Ok(dir),
+        None => Ok(Text::of(alloc, ".")?),
+    }
+}
+
+/// The scenario of a draft. Fails where a key without a default is not given.
+#[tactic(auto, unfolding(crate::specs::Filling::completed))]
+fn complete(alloc: Global, draft: Draft) -> Result<Scenario, ScenarioFault>
+    ensures value { IfOk result (λ s. completed draft ≡ Ok s) }
+    ensures fault { IfErr result (λ e. IsReadingFault e (completed draft)) }
+{
+    Ok(Scenario {
+        algo: required(draft.algo)?,
+        cutoff_time: required(draft.cutoff_time)?,
+        paramfile: required(draft.paramfile)?,
+        instance_file: required(draft.instance_file)?,
+        execdir: folder(alloc, draft.execdir)?,
+        deterministic: draft.deterministic.unwrap_or(false),
+        run_obj: draft.run_obj.unwrap_or(RunObj::Runtime),
+        overall_obj: draft.overall_obj.unwrap_or(Overall::Mean),
+        cutoff_length: draft.cutoff_length.unwrap_or(MAX_LENGTH),
+        tuner_timeout: draft.tuner_timeout,
+        outdir: draft.outdir,
+        valid_n: draft.valid_n,
+        test_instance_file: draft.test_instance_file,
+        approach: draft.approach.unwrap_or(Approach::Focused),
+        n: draft.n.unwrap_or(100),
+        num_run: draft.num_run.unwrap_or(0),
+        max_comparisons: draft.max_comparisons.unwrap_or(1000),
+        workers: draft.workers.unwrap_or(1),
+        r: draft.r.unwrap_or(10),
+        s: draft.s.unwrap_or(3),
+        p_restart: draft.p_restart.unwrap_or(100),
+        cap_floor: draft.cap_floor.unwrap_or(Micros(100_000)),
+        pair_order: draft.pair_order.unwrap_or(PairOrder::Shuffled),
+    })
+}
+
+/// The scenario of a file's keys and of words', which go before the file's, with the defaults
+/// filled in.
+///
+/// # Errors
+/// `Missing` in line 0 exactly where a key without a default is in neither, or
+/// [`ScenarioFault::Memory`].
+pub fn fill(alloc: Global, file: Draft, words: Draft) -> Result<Scenario, ScenarioFault>
+    ensures value { IfOk result (λ s. filled file words ≡ Ok s) }
+    ensures fault { IfErr result (λ e. IsReadingFault e (filled file words)) }
+{
+    complete(alloc, either(words, file))
+}

@@ -1,0 +1,109 @@
+//! The keys that a scenario file gives.
+ghost use Rattle.std.specs.Prelude.{◌≡◌, ◌^◌, ◌<◌, Ok, OnOk, IfOk, IfErr, length};
+ghost use Rattle.plain_text.specs.Lines.{numbered_lines};
+ghost use Rattle.plain_text.specs.Parts.{parted as cut};
+ghost use Rattle.scenario_files.specs.Values.{IsRefusal};
+ghost use Rattle.scenario_files.specs.Keys.{key_of as key_in};
+ghost use Rattle.scenario_files.specs.Reading.{nothing, in_line, with_found, with_statement, with_line, with_lines, scenario_read, IsReadingFault};
+
+use crate::draft::Draft;
+use crate::faults::{Refused, ScenarioFault, ScenarioWhat};
+use crate::keys::key_of;
+use crate::trimming::{trimmed, uncommented};
+use crate::values::is_empty;
+use plain_text::{lines, parted};
+use std::alloc::Global;
+use std::str;
+
+/// The greatest length of a file in bytes.
+const MAX_BYTES: usize = 16_777_216;
+
+impl Draft {
+    /// Takes the key of this name with its value. Fails where there is no such key, where it
+    /// was given before, or with what is wrong with the value.
+    pub(crate) fn set_named(
+        &mut self,
+        alloc: Global,
+        name: &str,
+        value: &str,
+    ) -> Result<(), Refused>
+        ensures value { OnOk result (with_found self.old value.now (key_in name.now) ≡ Ok self.new) }
+        ensures fault { IfErr result (λ e. IsRefusal e (with_found self.old value.now (key_in name.now))) }
+    {
+        match key_of(name) {
+            Some(key) => self.set(alloc, key, value),
+            None => Err(Refused::Value(ScenarioWhat::UnknownKey)),
+        }
+    }
+
+    /// Takes what a line without a comment states.
+    fn add_statement(&mut self, alloc: Global, text: &str) -> Result<(), Refused>
+        ensures value { OnOk result (with_statement self.old text.now ≡ Ok self.new) }
+        ensures fault { IfErr result (λ e. IsRefusal e (with_statement self.old text.now)) }
+    {
+        if is_empty(text) {
+            return Ok(());
+        }
+        match parted(text, '=') {
+            Some((key, value)) => self.set_named(alloc, trimmed(key), trimmed(value)),
+            None => Err(Refused::Value(ScenarioWhat::NoEquals)),
+        }
+    }
+
+    /// Takes what a line states.
+    #[tactic(auto, unfolding(crate::specs::Reading::with_line))]
+    fn add_line(&mut self, alloc: Global, line: &[u8]) -> Result<(), Refused>
+        ensures value { OnOk result (with_line self.old line.now ≡ Ok self.new) }
+        ensures fault { IfErr result (λ e. IsRefusal e (with_line self.old line.now)) }
+    {
+        match str::from_utf8(line) {
+            Ok(text) => self.add_statement(alloc, uncommented(text)),
+            Err(_) => Err(Refused::Value(ScenarioWhat::NotText)),
+        }
+    }
+
+    /// Takes what the line with this number states.
+    fn add_numbered(&mut self, alloc: Global, number: u32, line: &[u8]) -> Result<(), ScenarioFault>
+        ensures value { OnOk result (in_line number (with_line self.old line.now) ≡ Ok self.new) }
+        ensures fault { IfErr result (λ e. IsReadingFault e (in_line number (with_line self.old line.now))) }
+    {
+        match self.add_line(alloc, line) {
+            Ok(()) => Ok(()),
+            Err(Refused::Value(what)) => Err(ScenarioFault::At { line: number, what }),
+            Err(Refused::Memory) => Err(ScenarioFault::Memory),
+        }
+    }
+}
+
+/// What a text's lines give. Fails with the first fault of a line.
+fn read_lines(alloc: Global, text: &[u8]) -> Result<Draft, ScenarioFault>
+    requires { length text.now < 2 ^ 32 }
+    ensures value { IfOk result (λ d. with_lines nothing (numbered_lines text.now) ≡ Ok d) }
+    ensures fault { IfErr result (λ e. IsReadingFault e (with_lines nothing (numbered_lines text.now))) }
+{
+    let mut draft = Draft::nothing();
+    for line in lines(text) {
+        draft.add_numbered(alloc, line.number, &text[line.start..line.end])?;
+    }
+    Ok(draft)
+}
+
+/// Reads the keys that a scenario file gives. A file of more than 16 MiB is a `BadValue` of
+/// line 0.
+///
+/// # Errors
+/// The first rule that is broken, in its line: any but `Missing`. Or
+/// [`ScenarioFault::Memory`].
+#[tactic(auto, unfolding(crate::specs::Reading::scenario_read))]
+pub fn read_scenario(alloc: Global, text: &[u8]) -> Result<Draft, ScenarioFault>
+    ensures value { IfOk result (λ d. scenario_read text.now ≡ Ok d) }
+    ensures fault { IfErr result (λ e. IsReadingFault e (scenario_read text.now)) }
+{
+    if text.len() > MAX_BYTES {
+        return Err(ScenarioFault::At {
+            line: 0,
+            what: ScenarioWhat::BadValue,
+        });
+    }
+    read_lines(alloc, text)
+}

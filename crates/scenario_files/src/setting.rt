@@ -1,0 +1,119 @@
+//! A draft takes a key.
+ghost use Rattle.std.specs.Prelude.{◌≡◌, Ok, IfErr, OnOk, IfOk};
+ghost use Rattle.scenario_files.specs.Values.{is_given, text_of as text_in, with_value, with_key, IsRefusal};
+
+use crate::draft::Draft;
+use crate::faults::{Refused, ScenarioWhat};
+use crate::keys::Key;
+use crate::values::{
+    approach_of, count_within, cutoff_length_of, flag_of, is_empty, overall_of, pair_order_of,
+    run_obj_of, share_of, time_within,
+};
+use objective::Memory;
+use plain_text::Text;
+use std::alloc::Global;
+
+/// The greatest cutoff time, in microseconds.
+const MAX_CUTOFF: u64 = 1_000_000_000_000;
+
+impl From<ScenarioWhat> for Refused {
+    ghost use Rattle.scenario_files.specs.declared.faults.Refused.TheVariants.{Value};
+
+    ghost from_gives = { λ what fault. fault ≡ Value what };
+
+    fn from(what: ScenarioWhat) -> Refused {
+        Refused::Value(what)
+    }
+}
+
+/// A text that isn't of blanks alone.
+pub(crate) fn text_of(alloc: Global, text: &str) -> Result<Text, Refused>
+    ensures value { IfOk result (λ t. text_in text.now ≡ Ok t) }
+    ensures fault { IfErr result (λ e. IsRefusal e (text_in text.now)) }
+{
+    if is_empty(text) {
+        return Err(Refused::Value(ScenarioWhat::BadValue));
+    }
+    Ok(Text::of(alloc, text)?)
+}
+
+impl Draft {
+    /// Whether the draft has the key.
+    fn has(&self, key: Key) -> bool
+        ensures { result ≡ is_given self.now key }
+    {
+        match key {
+            Key::Algo => self.algo.is_some(),
+            Key::Execdir => self.execdir.is_some(),
+            Key::Deterministic => self.deterministic.is_some(),
+            Key::RunObj => self.run_obj.is_some(),
+            Key::OverallObj => self.overall_obj.is_some(),
+            Key::CutoffTime => self.cutoff_time.is_some(),
+            Key::CutoffLength => self.cutoff_length.is_some(),
+            Key::TunerTimeout => self.tuner_timeout.is_some(),
+            Key::Paramfile => self.paramfile.is_some(),
+            Key::Outdir => self.outdir.is_some(),
+            Key::ValidN => self.valid_n.is_some(),
+            Key::InstanceFile => self.instance_file.is_some(),
+            Key::TestInstanceFile => self.test_instance_file.is_some(),
+            Key::Approach => self.approach.is_some(),
+            Key::N => self.n.is_some(),
+            Key::NumRun => self.num_run.is_some(),
+            Key::MaxComparisons => self.max_comparisons.is_some(),
+            Key::Workers => self.workers.is_some(),
+            Key::R => self.r.is_some(),
+            Key::S => self.s.is_some(),
+            Key::PRestart => self.p_restart.is_some(),
+            Key::CapFloor => self.cap_floor.is_some(),
+            Key::PairOrder => self.pair_order.is_some(),
+        }
+    }
+}
+
+impl Draft {
+    /// Puts a key at what its value is read as.
+    #[tactic(auto, unfolding(crate::specs::Values::with_value))]
+    fn set_value(&mut self, alloc: Global, key: Key, text: &str) -> Result<(), Refused>
+        ensures value { OnOk result (with_value self.old key text.now ≡ Ok self.new) }
+        ensures fault { IfErr result (λ e. IsRefusal e (with_value self.old key text.now)) }
+    {
+        match key {
+            Key::Algo => self.algo = Some(text_of(alloc, text)?),
+            Key::Execdir => self.execdir = Some(text_of(alloc, text)?),
+            Key::Deterministic => self.deterministic = Some(flag_of(text)?),
+            Key::RunObj => self.run_obj = Some(run_obj_of(text)?),
+            Key::OverallObj => self.overall_obj = Some(overall_of(text)?),
+            Key::CutoffTime => self.cutoff_time = Some(time_within(1, MAX_CUTOFF, text)?),
+            Key::CutoffLength => self.cutoff_length = Some(cutoff_length_of(text)?),
+            Key::TunerTimeout => self.tuner_timeout = Some(Text::of(alloc, text)?),
+            Key::Paramfile => self.paramfile = Some(text_of(alloc, text)?),
+            Key::Outdir => self.outdir = Some(Text::of(alloc, text)?),
+            Key::ValidN => self.valid_n = Some(Text::of(alloc, text)?),
+            Key::InstanceFile => self.instance_file = Some(text_of(alloc, text)?),
+            Key::TestInstanceFile => self.test_instance_file = Some(text_of(alloc, text)?),
+            Key::Approach => self.approach = Some(approach_of(text)?),
+            Key::N => self.n = Some(count_within(1, 10_000, text)?),
+            Key::NumRun => self.num_run = Some(count_within(0, u32::MAX, text)?),
+            Key::MaxComparisons => self.max_comparisons = Some(count_within(0, 100_000, text)?),
+            Key::Workers => self.workers = Some(count_within(1, 64, text)?),
+            Key::R => self.r = Some(count_within(0, 1000, text)?),
+            Key::S => self.s = Some(count_within(1, 100, text)?),
+            Key::PRestart => self.p_restart = Some(share_of(text)?),
+            Key::CapFloor => self.cap_floor = Some(time_within(1, u64::MAX, text)?),
+            Key::PairOrder => self.pair_order = Some(pair_order_of(text)?),
+        }
+        Ok(())
+    }
+
+    /// Takes a key with its value. Fails where the key was given before, or with what is
+    /// wrong with the value; then nothing is known of the draft.
+    pub(crate) fn set(&mut self, alloc: Global, key: Key, text: &str) -> Result<(), Refused>
+        ensures value { OnOk result (with_key self.old key text.now ≡ Ok self.new) }
+        ensures fault { IfErr result (λ e. IsRefusal e (with_key self.old key text.now)) }
+    {
+        if self.has(key) {
+            return Err(Refused::Value(ScenarioWhat::Twice));
+        }
+        self.set_value(alloc, key, text)
+    }
+}
