@@ -1,0 +1,3 @@
+pub mod Reading
+pub mod Counts
+pub mod Example
