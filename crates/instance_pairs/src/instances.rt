@@ -4,7 +4,7 @@ ghost use Rattle.instance_pairs.specs.Reading.{instance_of as instance_in, or_ze
 
 use crate::trimming::{after_word, end_trimmed, first_word, front_trimmed};
 use objective::Memory;
-use plain_text::Text;
+use plain_text::{Items, Text};
 use std::alloc::Global;
 
 /// An instance that configurations are run on.
@@ -14,6 +14,29 @@ pub struct Instance {
     pub name: Text,
     /// What else a run is told of it.
     pub specifics: Text,
+}
+
+impl Instance {
+    /// The same instance.
+    pub fn copy(&self) -> Result<Instance, Memory>
+        ensures { IfOk result (λ i. i ≡ self.now) }
+    {
+        Ok(Instance {
+            name: self.name.copy()?,
+            specifics: self.specifics.copy()?,
+        })
+    }
+}
+
+/// The same instances.
+pub(crate) fn copied_instances(instances: &Items<Instance>) -> Result<Items<Instance>, Memory>
+    ensures { IfOk result (λ v. v ≡ instances.now) }
+{
+    let mut copied = Vec::new(*instances.allocator());
+    for instance in instances.as_slice() {
+        copied.push(instance.copy()?)?;
+    }
+    Ok(Items::new(copied))
 }
 
 /// The text, or `0` where it is empty.

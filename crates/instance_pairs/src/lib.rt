@@ -7,9 +7,12 @@
 
 mod faults;
 mod instances;
+mod pairs;
 mod reader;
+mod spots;
 mod trimming;
 
 pub use faults::{InstanceFault, InstanceWhat};
 pub use instances::Instance;
+pub use pairs::{Pair, Pairs};
 pub use reader::read_instances;
