@@ -1,9 +1,9 @@
 -- The instances of an instance file, or its first fault with its line.
 use Rattle.std.specs.Prelude.{ℕ, ◌≡◌, ◌-◌, List, [], ◌∷◌, ◌++◌, Option, Some, None, Result, Ok, Err, nat_lt, length, take, drop, if◌then◌else◌}
-use Rattle.std.specs.List.{prefix_len, suffix_len, position_or_len, before_first}
 use Rattle.std.specs.Str.{is_utf8}
 use Rattle.plain_text.specs.Lines.{numbered_lines}
-use Rattle.plain_text.specs.Words.{is_blank}
+pub use Rattle.plain_text.specs.Results.{◌>>=◌}
+use Rattle.plain_text.specs.Trimming.{front_trimmed, end_trimmed, first_word, after_word}
 use Rattle.instance_pairs.specs.declared.faults.InstanceWhat.{InstanceWhat}
 use Rattle.instance_pairs.specs.declared.faults.InstanceWhat.TheVariants.{NotText, TooMany, NoInstances}
 use Rattle.instance_pairs.specs.declared.faults.InstanceFault.{InstanceFault}
@@ -11,22 +11,6 @@ use Rattle.instance_pairs.specs.declared.faults.InstanceFault.TheVariants.{At, M
 use Rattle.instance_pairs.specs.declared.instances.Instance.{Instance}
 
 -- ---- a line
-
--- a text without the blanks at its beginning
-abbrev pub front_trimmed : List ℕ → List ℕ
-front_trimmed text = drop (prefix_len is_blank text) text
-
--- a text without the blanks at its end
-abbrev pub end_trimmed : List ℕ → List ℕ
-end_trimmed text = take (length text - suffix_len is_blank text) text
-
--- what stands before the first blank
-abbrev pub first_word : List ℕ → List ℕ
-first_word text = before_first is_blank text
-
--- the rest from the first blank on
-abbrev pub after_word : List ℕ → List ℕ
-after_word text = drop (position_or_len is_blank text) text
 
 -- a text, or the digit 0 for an empty one
 abbrev pub or_zero : List ℕ → List ℕ
@@ -43,12 +27,6 @@ unfoldable pub instance_of : List ℕ → Option Instance
 instance_of line = instance_named (front_trimmed line)
 
 -- ---- the lines
-
-infixl 10 ◌>>=◌
--- one reading after another, which takes its value
-abbrev pub ◌>>=◌ : {A B E : Type 0} → Result A E → (A → Result B E) → Result B E
-Ok x >>= f = f x
-Err e >>= f = Err e
 
 -- a fault with its line
 abbrev pub in_line : {A : Type 0} → ℕ → Result A InstanceWhat → Result A InstanceFault

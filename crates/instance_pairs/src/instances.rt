@@ -2,9 +2,8 @@
 ghost use Rattle.std.specs.Prelude.{◌≡◌, IfOk};
 ghost use Rattle.instance_pairs.specs.Reading.{instance_of as instance_in, or_zero as zero_for_nothing};
 
-use crate::trimming::{after_word, end_trimmed, first_word, front_trimmed};
 use objective::Memory;
-use plain_text::{Items, Text};
+use plain_text::{Items, Text, after_word, end_trimmed, first_word, front_trimmed};
 use std::alloc::Global;
 
 /// An instance that configurations are run on.

@@ -10,7 +10,6 @@ mod instances;
 mod pairs;
 mod reader;
 mod spots;
-mod trimming;
 
 pub use faults::{InstanceFault, InstanceWhat};
 pub use instances::Instance;

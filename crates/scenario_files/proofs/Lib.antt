@@ -1,4 +1,3 @@
-pub mod Cuts
 pub mod Readings
 pub mod Counting
 pub mod Pairs

@@ -10,7 +10,8 @@ use Rattle.scenario_files.specs.declared.faults.ScenarioWhat.TheVariants.{Missin
 use Rattle.scenario_files.specs.declared.faults.ScenarioFault.{ScenarioFault}
 use Rattle.scenario_files.specs.declared.faults.ScenarioFault.TheVariants.{At}
 use Rattle.scenario_files.specs.declared.filling.Scenario.{Scenario}
-use Rattle.scenario_files.specs.Values.{◌>>=◌, max_length}
+use Rattle.scenario_files.specs.Values.{max_length}
+use Rattle.plain_text.specs.Results.{◌>>=◌}
 
 -- each key of the first draft, or else of the second
 abbrev pub either : Draft → Draft → Draft

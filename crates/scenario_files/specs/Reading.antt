@@ -4,6 +4,8 @@ use Rattle.std.specs.List.{list_all, prefix_len, suffix_len, before_first}
 use Rattle.std.specs.Str.{is_utf8}
 use Rattle.plain_text.specs.Lines.{numbered_lines}
 use Rattle.plain_text.specs.Parts.{parted}
+use Rattle.plain_text.specs.Results.{◌>>=◌}
+use Rattle.plain_text.specs.Trimming.{trimmed}
 use Rattle.plain_text.specs.Words.{is_blank}
 use Rattle.scenario_files.specs.declared.draft.Draft.{Draft}
 use Rattle.scenario_files.specs.declared.faults.ScenarioWhat.{ScenarioWhat}
@@ -12,7 +14,7 @@ use Rattle.scenario_files.specs.declared.faults.ScenarioFault.{ScenarioFault}
 use Rattle.scenario_files.specs.declared.faults.ScenarioFault.TheVariants.{At, Memory}
 use Rattle.scenario_files.specs.declared.keys.Key.{Key}
 use Rattle.scenario_files.specs.Keys.{key_of}
-use Rattle.scenario_files.specs.Values.{◌>>=◌, with_key}
+use Rattle.scenario_files.specs.Values.{with_key}
 
 -- no key is given
 abbrev pub nothing : Draft
@@ -50,14 +52,6 @@ in_line line (Err what) = Err (At line what)
 -- what stands before a comment
 abbrev pub uncommented : List ℕ → List ℕ
 uncommented line = before_first (λ b. b == 35) line
-
--- a text without the blanks at its end
-abbrev pub end_trimmed : List ℕ → List ℕ
-end_trimmed text = take (length text - suffix_len is_blank text) text
-
--- a text without the blanks around it
-abbrev pub trimmed : List ℕ → List ℕ
-trimmed text = end_trimmed (drop (prefix_len is_blank text) text)
 
 -- the draft with the key of this name at the value
 abbrev pub with_found : Draft → List ℕ → Option Key → Result Draft ScenarioWhat

@@ -7,6 +7,7 @@ use Rattle.std.specs.Str.Parse.{digits_value}
 use Rattle.objective.specs.declared.Micros.{Micros}
 use Rattle.plain_text.specs.declared.times.TimeFault.{TimeFault}
 use Rattle.plain_text.specs.declared.times.TimeFault.TheVariants.{NotDecimal, TooLarge}
+pub use Rattle.plain_text.specs.Results.{◌>>=◌}
 use Rattle.plain_text.specs.Words.{is_blank}
 use Rattle.plain_text.specs.Times.{micros_read}
 use Rattle.scenario_files.specs.declared.draft.Draft.{Draft}
@@ -24,12 +25,6 @@ use Rattle.scenario_files.specs.declared.faults.Refused.{Refused}
 use Rattle.scenario_files.specs.declared.faults.Refused.TheVariants as refused
 use Rattle.scenario_files.specs.declared.keys.Key.{Key}
 use Rattle.scenario_files.specs.declared.keys.Key.TheVariants as key
-
-infixl 10 ◌>>=◌
--- one reading after another, which takes its value
-abbrev pub ◌>>=◌ : {A B E : Type 0} → Result A E → (A → Result B E) → Result B E
-Ok x >>= f = f x
-Err e >>= f = Err e
 
 -- the fault that is returned is the one that is found; memory may always run out
 abbrev pub IsRefusal : {A : Type 0} → Refused → Result A ScenarioWhat → Type 0

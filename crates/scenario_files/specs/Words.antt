@@ -10,7 +10,8 @@ use Rattle.scenario_files.specs.declared.faults.ScenarioWhat.TheVariants.{Unknow
 use Rattle.scenario_files.specs.declared.faults.WordFault.{WordFault}
 use Rattle.scenario_files.specs.declared.faults.WordFault.TheVariants.{At, Memory}
 use Rattle.scenario_files.specs.Keys.{key_of}
-use Rattle.scenario_files.specs.Values.{◌>>=◌, text_of}
+use Rattle.scenario_files.specs.Values.{text_of}
+use Rattle.plain_text.specs.Results.{◌>>=◌}
 use Rattle.scenario_files.specs.Reading.{nothing, with_found}
 
 -- no word so far

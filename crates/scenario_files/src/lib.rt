@@ -15,7 +15,6 @@ mod reader;
 mod setting;
 #[cfg(test)]
 mod tests;
-mod trimming;
 mod values;
 
 pub use call::{Words, read_words};

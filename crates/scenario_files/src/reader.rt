@@ -4,19 +4,28 @@ ghost use Rattle.plain_text.specs.Lines.{numbered_lines};
 ghost use Rattle.plain_text.specs.Parts.{parted as cut};
 ghost use Rattle.scenario_files.specs.Values.{IsRefusal};
 ghost use Rattle.scenario_files.specs.Keys.{key_of as key_in};
-ghost use Rattle.scenario_files.specs.Reading.{nothing, in_line, with_found, with_statement, with_line, with_lines, scenario_read, IsReadingFault};
+ghost use Rattle.scenario_files.specs.Reading.{uncommented as before_comment, nothing, in_line, with_found, with_statement, with_line, with_lines, scenario_read, IsReadingFault};
 
 use crate::draft::Draft;
 use crate::faults::{Refused, ScenarioFault, ScenarioWhat};
 use crate::keys::key_of;
-use crate::trimming::{trimmed, uncommented};
 use crate::values::is_empty;
-use plain_text::{lines, parted};
+use plain_text::{lines, parted, trimmed};
 use std::alloc::Global;
 use std::str;
 
 /// The greatest length of a file in bytes.
 const MAX_BYTES: usize = 16_777_216;
+
+/// What stands before a comment.
+fn uncommented(line: &str) -> &str
+    ensures { result.now ≡ before_comment line.now }
+{
+    match parted(line, '#') {
+        Some((before, _)) => before,
+        None => line,
+    }
+}
 
 impl Draft {
     /// Takes the key of this name with its value. Fails where there is no such key, where it
