@@ -1,8 +1,7 @@
 pub mod Keys
 pub mod Values
-pub mod Ranges
 pub mod Reading
 pub mod Words
 pub mod Filling
-pub mod Ranged
+pub mod Limits
 pub mod Example

@@ -1,5 +1,6 @@
 //! The words of a call.
 ghost use Rattle.std.specs.Prelude.{◌≡◌, Ok, IfOk, IfErr, OnOk};
+ghost use Rattle.scenario_files.specs.Limits.{AreWordsWithin};
 ghost use Rattle.scenario_files.specs.Values.{IsRefusal};
 ghost use Rattle.scenario_files.specs.Words.{none_given, with_file, with_pair, at_place, named, words_read, IsWordFault};
 
@@ -103,7 +104,7 @@ impl Given {
 }
 
 /// Reads the words of a call: pairs `-key value`, each key at most once, of which one is
-/// `-scenariofile`.
+/// `-scenariofile`. Each value lies within its limits.
 ///
 /// # Errors
 /// The place of the first key word that is wrong: it is no key, or came before, or its value
@@ -112,6 +113,7 @@ impl Given {
 pub fn read_words(alloc: Global, words: &[Text]) -> Result<Words, WordFault>
     ensures value { IfOk result (λ w. words_read words.now ≡ Ok w) }
     ensures fault { IfErr result (λ e. IsWordFault e (words_read words.now)) }
+    ensures limits { IfOk result AreWordsWithin }
 {
     let mut given = Given {
         file: None,

@@ -2,6 +2,7 @@
 ghost use Rattle.std.specs.Prelude.{◌≡◌, Ok, IfOk, IfErr, codes};
 ghost use Rattle.std.specs.Option.{unwrap_or};
 ghost use Rattle.scenario_files.specs.declared.faults.ScenarioFault.TheVariants.{Memory as NoMemory};
+ghost use Rattle.scenario_files.specs.Limits.{AreWithin, IsWithin};
 ghost use Rattle.scenario_files.specs.Reading.{IsReadingFault};
 ghost use Rattle.scenario_files.specs.Filling.{either as either_of, required as required_of, completed, filled};
 
@@ -132,7 +133,7 @@ fn complete(alloc: Global, draft: Draft) -> Result<Scenario, ScenarioFault>
 }
 
 /// The scenario of a file's keys and of words', which go before the file's, with the defaults
-/// filled in.
+/// filled in. Where the keys lie within their limits, so do its values.
 ///
 /// # Errors
 /// `Missing` in line 0 exactly where a key without a default is in neither, or
@@ -140,6 +141,7 @@ fn complete(alloc: Global, draft: Draft) -> Result<Scenario, ScenarioFault>
 pub fn fill(alloc: Global, file: Draft, words: Draft) -> Result<Scenario, ScenarioFault>
     ensures value { IfOk result (λ s. filled file words ≡ Ok s) }
     ensures fault { IfErr result (λ e. IsReadingFault e (filled file words)) }
+    ensures limits { AreWithin file → AreWithin words → IfOk result IsWithin }
 {
     complete(alloc, either(words, file))
 }

@@ -3,6 +3,7 @@ ghost use Rattle.std.specs.Prelude.{◌≡◌, ◌^◌, ◌<◌, Ok, OnOk, IfOk,
 ghost use Rattle.plain_text.specs.Lines.{numbered_lines};
 ghost use Rattle.plain_text.specs.Parts.{parted as cut};
 ghost use Rattle.scenario_files.specs.Values.{IsRefusal};
+ghost use Rattle.scenario_files.specs.Limits.{AreWithin};
 ghost use Rattle.scenario_files.specs.Keys.{key_of as key_in};
 ghost use Rattle.scenario_files.specs.Reading.{uncommented as before_comment, nothing, in_line, with_found, with_statement, with_line, with_lines, scenario_read, IsReadingFault};
 
@@ -97,8 +98,8 @@ fn read_lines(alloc: Global, text: &[u8]) -> Result<Draft, ScenarioFault>
     Ok(draft)
 }
 
-/// Reads the keys that a scenario file gives. A file of more than 16 MiB is a `BadValue` of
-/// line 0.
+/// Reads the keys that a scenario file gives. Each lies within its limits. A file of more than
+/// 16 MiB is a `BadValue` of line 0.
 ///
 /// # Errors
 /// The first rule that is broken, in its line: any but `Missing`. Or
@@ -107,6 +108,7 @@ fn read_lines(alloc: Global, text: &[u8]) -> Result<Draft, ScenarioFault>
 pub fn read_scenario(alloc: Global, text: &[u8]) -> Result<Draft, ScenarioFault>
     ensures value { IfOk result (λ d. scenario_read text.now ≡ Ok d) }
     ensures fault { IfErr result (λ e. IsReadingFault e (scenario_read text.now)) }
+    ensures limits { IfOk result AreWithin }
 {
     if text.len() > MAX_BYTES {
         return Err(ScenarioFault::At {
