@@ -1,6 +1,6 @@
 -- The keys that a scenario file gives, or its first fault with its line.
-use Rattle.std.specs.Prelude.{ℕ, ◌≡◌, ◌-◌, ◌==◌, List, [], ◌∷◌, Option, Some, None, Result, Ok, Err, nat_lt, length, take, drop, if◌then◌else◌}
-use Rattle.std.specs.List.{list_all, prefix_len, suffix_len, before_first}
+use Rattle.std.specs.Prelude.{ℕ, ◌≡◌, ◌==◌, List, [], ◌∷◌, Option, Some, None, Result, Ok, Err, nat_lt, length, if◌then◌else◌}
+use Rattle.std.specs.List.{list_all, before_first}
 use Rattle.std.specs.Str.{is_utf8}
 use Rattle.plain_text.specs.Lines.{numbered_lines}
 use Rattle.plain_text.specs.Parts.{parted}
