@@ -57,7 +57,7 @@ fn max_runs_for(deterministic: bool, count: u32, wanted: u32) -> u32
 
 impl Pairs {
     /// The pairs over these instances, in file order or shuffled anew in each round by the
-    /// draws of this seed. Deterministic runs have the seed 0, and each instance once.
+    /// draws of this seed. Deterministic runs have the seed 0, and no instance comes twice.
     pub fn new(
         alloc: Global,
         instances: Vec<Instance>,

@@ -89,3 +89,11 @@ impl From<Memory> for Refused {
         Refused::Memory
     }
 }
+
+impl From<ScenarioWhat> for Refused {
+    ghost from_gives = { λ what fault. fault ≡ refused.Value what };
+
+    fn from(what: ScenarioWhat) -> Refused {
+        Refused::Value(what)
+    }
+}

@@ -4,12 +4,10 @@ ghost use Rattle.plain_text.specs.Lines.{numbered_lines};
 ghost use Rattle.plain_text.specs.Parts.{parted as cut};
 ghost use Rattle.scenario_files.specs.Values.{IsRefusal};
 ghost use Rattle.scenario_files.specs.Limits.{AreWithin};
-ghost use Rattle.scenario_files.specs.Keys.{key_of as key_in};
-ghost use Rattle.scenario_files.specs.Reading.{uncommented as before_comment, nothing, in_line, with_found, with_statement, with_line, with_lines, scenario_read, IsReadingFault};
+ghost use Rattle.scenario_files.specs.Reading.{uncommented as before_comment, nothing, in_line, with_statement, with_line, with_lines, scenario_read, IsReadingFault};
 
 use crate::draft::Draft;
 use crate::faults::{Refused, ScenarioFault, ScenarioWhat};
-use crate::keys::key_of;
 use crate::values::is_empty;
 use plain_text::{lines, parted, trimmed};
 use std::alloc::Global;
@@ -29,23 +27,6 @@ fn uncommented(line: &str) -> &str
 }
 
 impl Draft {
-    /// Takes the key of this name with its value. Fails where there is no such key, where it
-    /// was given before, or with what is wrong with the value.
-    pub(crate) fn set_named(
-        &mut self,
-        alloc: Global,
-        name: &str,
-        value: &str,
-    ) -> Result<(), Refused>
-        ensures value { OnOk result (with_found self.old value.now (key_in name.now) ≡ Ok self.new) }
-        ensures fault { IfErr result (λ e. IsRefusal e (with_found self.old value.now (key_in name.now))) }
-    {
-        match key_of(name) {
-            Some(key) => self.set(alloc, key, value),
-            None => Err(Refused::Value(ScenarioWhat::UnknownKey)),
-        }
-    }
-
     /// Takes what a line without a comment states.
     fn add_statement(&mut self, alloc: Global, text: &str) -> Result<(), Refused>
         ensures value { OnOk result (with_statement self.old text.now ≡ Ok self.new) }

@@ -1,10 +1,12 @@
 //! A draft takes a key.
 ghost use Rattle.std.specs.Prelude.{◌≡◌, Ok, IfErr, OnOk, IfOk};
+ghost use Rattle.scenario_files.specs.Keys.{key_of as key_in};
+ghost use Rattle.scenario_files.specs.Reading.{with_found};
 ghost use Rattle.scenario_files.specs.Values.{is_given, text_of as text_in, with_value, with_key, IsRefusal};
 
 use crate::draft::Draft;
 use crate::faults::{Refused, ScenarioWhat};
-use crate::keys::Key;
+use crate::keys::{Key, key_of};
 use crate::values::{
     approach_of, count_within, cutoff_length_of, flag_of, is_empty, overall_of, pair_order_of,
     run_obj_of, share_of, time_within,
@@ -15,16 +17,6 @@ use std::alloc::Global;
 
 /// The greatest cutoff time, in microseconds.
 const MAX_CUTOFF: u64 = 1_000_000_000_000;
-
-impl From<ScenarioWhat> for Refused {
-    ghost use Rattle.scenario_files.specs.declared.faults.Refused.TheVariants.{Value};
-
-    ghost from_gives = { λ what fault. fault ≡ Value what };
-
-    fn from(what: ScenarioWhat) -> Refused {
-        Refused::Value(what)
-    }
-}
 
 /// A text that isn't of blanks alone.
 pub(crate) fn text_of(alloc: Global, text: &str) -> Result<Text, Refused>
@@ -68,9 +60,7 @@ impl Draft {
             Key::PairOrder => self.pair_order.is_some(),
         }
     }
-}
 
-impl Draft {
     /// Puts a key at what its value is read as.
     #[tactic(auto, unfolding(crate::specs::Values::with_value))]
     fn set_value(&mut self, alloc: Global, key: Key, text: &str) -> Result<(), Refused>
@@ -115,5 +105,22 @@ impl Draft {
             return Err(Refused::Value(ScenarioWhat::Twice));
         }
         self.set_value(alloc, key, text)
+    }
+
+    /// Takes the key of this name with its value. Fails where there is no such key, where it
+    /// was given before, or with what is wrong with the value.
+    pub(crate) fn set_named(
+        &mut self,
+        alloc: Global,
+        name: &str,
+        value: &str,
+    ) -> Result<(), Refused>
+        ensures value { OnOk result (with_found self.old value.now (key_in name.now) ≡ Ok self.new) }
+        ensures fault { IfErr result (λ e. IsRefusal e (with_found self.old value.now (key_in name.now))) }
+    {
+        match key_of(name) {
+            Some(key) => self.set(alloc, key, value),
+            None => Err(Refused::Value(ScenarioWhat::UnknownKey)),
+        }
     }
 }
