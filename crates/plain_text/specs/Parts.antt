@@ -1,6 +1,6 @@
 -- Parts of a text: what stands before, between and after other texts.
-use Rattle.std.specs.Prelude.{ℕ, ◌-◌, ◌==◌, List, [], length, take, drop, nat_lt, Option, Some, None, if◌then◌else◌, bytes_eq}
-use Rattle.std.specs.List.{before_first, after_first, position_or_len, slice_split, slice_index_or}
+use Rattle.std.specs.Prelude.{ℕ, ◌-◌, ◌==◌, List, length, take, drop, nat_lt, Option, Some, None, if◌then◌else◌, bytes_eq}
+use Rattle.std.specs.List.{before_first, after_first, position_or_len}
 
 -- what follows a text at the head of a list
 abbrev pub after_prefix : List ℕ → List ℕ → Option (List ℕ)
@@ -17,12 +17,3 @@ parted c xs =
     if nat_lt (position_or_len (λ b. b == c) xs) (length xs)
     then Some (before_first (λ b. b == c) xs, after_first (λ b. b == c) xs)
     else None
-
--- all but the last part, where that is empty
-abbrev pub front_before_empty : List (List ℕ) → Option (List (List ℕ))
-front_before_empty parts =
-    if length (slice_index_or parts (length parts - 1) []) == 0 then Some (take (length parts - 1) parts) else None
-
--- the lines of a text in which each line is ended by a line feed
-abbrev pub ended_lines : List ℕ → Option (List (List ℕ))
-ended_lines text = front_before_empty (slice_split (λ b. b == 10) text)

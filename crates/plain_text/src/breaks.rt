@@ -1,11 +1,9 @@
 //! The lines of a text.
-ghost use Rattle.std.specs.Prelude.{◌≡◌, ◌+◌, ◌^◌, ◌<◌, ◌≤◌, length, map, IfOk};
+ghost use Rattle.std.specs.Prelude.{◌≡◌, ◌+◌, ◌^◌, ◌<◌, ◌≤◌, length};
 ghost use Rattle.std.specs.Iterator.{YieldsFirst, item_count};
 ghost use Rattle.std.specs.List.{position_or_len};
-ghost use Rattle.plain_text.specs.Lines.{is_break, ended_size as size_ended, lines as lines_in, numbered_lines as numbered_in, IsFirstLine};
+ghost use Rattle.plain_text.specs.Lines.{is_break, ended_size as size_ended, lines as lines_in, IsFirstLine};
 
-use objective::Memory;
-use std::alloc::Global;
 use std::marker::Model;
 
 /// The place of a line in its text.
@@ -78,18 +76,6 @@ impl<'a> Iterator for TextLines<'a> {
             end: start + size,
         })
     }
-}
-
-/// The lines of a text as texts, each with its number.
-pub fn numbered_lines<'a>(alloc: Global, text: &'a str) -> Result<Vec<(u32, &'a str)>, Memory>
-    requires { length text.now < 2 ^ 32 }
-    ensures { IfOk result (λ v. map (λ l. (l.0, l.1.now)) v.items ≡ numbered_in text.now) }
-{
-    let mut numbered = Vec::new(alloc);
-    for line in lines(text.as_bytes()) {
-        numbered.push((line.number, &text[line.start..line.end]))?;
-    }
-    Ok(numbered)
 }
 
 /// The size of the first line, and that of it with its end.

@@ -1,7 +1,7 @@
 //! What stands before, between and after other texts.
-ghost use Rattle.std.specs.Prelude.{◌≡◌, ◌<◌, IfOk, map, option_map};
+ghost use Rattle.std.specs.Prelude.{◌≡◌, ◌<◌, option_map};
 ghost use Rattle.std.specs.Option.{option_copied};
-ghost use Rattle.plain_text.specs.Parts.{after_prefix as following, before_suffix as preceding, parted as cut};
+ghost use Rattle.plain_text.specs.Parts.{after_prefix as following, parted as cut};
 
 /// What follows `prefix` at the head of `text`. None exactly where the text doesn't begin
 /// with it. Takes no memory.
@@ -9,14 +9,6 @@ pub fn after_prefix<'a>(text: &'a str, prefix: &str) -> Option<&'a str>
     ensures { option_copied result ≡ following prefix.now text.now }
 {
     text.strip_prefix(prefix)
-}
-
-/// What stands before `suffix` at the end of `text`. None exactly where the text doesn't
-/// end with it. Takes no memory.
-pub fn before_suffix<'a>(text: &'a str, suffix: &str) -> Option<&'a str>
-    ensures { option_copied result ≡ preceding suffix.now text.now }
-{
-    text.strip_suffix(suffix)
 }
 
 /// What stands before and after the first `separator`. None exactly where there is none.

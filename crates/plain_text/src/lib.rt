@@ -14,13 +14,13 @@ mod tokenizer;
 mod trimming;
 mod words;
 
-pub use breaks::{Line, TextLines, lines, numbered_lines};
-pub use cuts::{after_prefix, before_suffix, parted};
+pub use breaks::{Line, TextLines, lines};
+pub use cuts::{after_prefix, parted};
 pub use decimals::{push_seconds, read_count, seconds_text};
 pub use items::Items;
-pub use parts::{ended_lines, pieces};
+pub use parts::pieces;
 pub use text::Text;
 pub use times::{TimeFault, read_micros};
 pub use tokenizer::{Token, token_texts, tokens};
 pub use trimming::{after_word, end_trimmed, first_word, front_trimmed, trimmed};
-pub use words::{is_blank, is_word, is_word_byte};
+pub use words::{is_blank, is_word};

@@ -1,5 +1,5 @@
 //! Worked times and lines.
-use crate::{TimeFault, lines, numbered_lines, read_micros, token_texts, tokens};
+use crate::{TimeFault, lines, read_micros, token_texts, tokens};
 use objective::{Memory, Micros};
 
 #[test]
@@ -82,6 +82,10 @@ fn finds_worked_lines(rt: HostRuntime) -> Result<(), Memory> {
             [Some((1, 0, 1)), Some((2, 3, 3)), Some((3, 4, 6))],
         ),
         ("\r\r\n", [Some((1, 0, 1)), None, None]),
+        (
+            "größe\r\n\n€",
+            [Some((1, 0, 7)), Some((2, 9, 9)), Some((3, 10, 13))],
+        ),
     ] {
         let mut found = lines(text.as_bytes());
         for place in wanted {
@@ -93,17 +97,6 @@ fn finds_worked_lines(rt: HostRuntime) -> Result<(), Memory> {
             );
         }
         assert!(rt; found.next().is_none());
-    }
-    Ok(())
-}
-
-#[test]
-fn numbers_worked_lines(rt: HostRuntime) -> Result<(), Memory> {
-    let found = numbered_lines(rt.alloc(), "größe\r\n\n€")?;
-    let wanted = [(1, "größe"), (2, ""), (3, "€")];
-    assert_eq!(rt; found.len(), wanted.len());
-    for (line, expected) in found.iter().zip(wanted) {
-        assert_eq!(rt; *line, expected);
     }
     Ok(())
 }

@@ -11,7 +11,7 @@ pub fn is_blank(byte: u8) -> bool
 
 /// Whether the byte may stand in a word: it is no ASCII control character, no space
 /// and none of `{ } [ ] | , = #`.
-pub fn is_word_byte(byte: u8) -> bool
+fn is_word_byte(byte: u8) -> bool
     ensures { result ≡ word_byte byte }
 {
     !(byte <= b' '
