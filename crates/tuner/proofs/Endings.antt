@@ -1,12 +1,17 @@
 -- How the top call ends, by its branches.
-use Rattle.std.proofs.Common.{ℕ, zero, suc, Bool, true, false, ◌==◌, ◌≡◌, ◌≤◌, ◌<◌, List, [], ◌∷◌, Option, length, get_or, set, refl, sym, ap, subst, arith}
-use Rattle.std.proofs.lemmas.Bool.Decides.{nat_tests}
+use Rattle.std.proofs.Common.{ℕ, zero, suc, ◌≡◌, ◌<◌, List, [], ◌∷◌, Option, Some, None, Ok, length, get_or, set, refl, ap, subst, ◌∙◌, arith}
+use Rattle.std.specs.Prelude.{IfSome}
 use Rattle.objective.specs.Costs.{Table}
 use Rattle.outside.specs.declared.runs.Run as runs
 use Rattle.objective.specs.declared.Outcome.{Outcome}
 use Rattle.outside.specs.declared.runs.Key.{Key}
-use Rattle.tuner.specs.Lines.{seats_line}
-use Rattle.tuner.specs.Problem.{Problem, problem_of}
+use Rattle.scenario_files.specs.Words.{words_read, IsWordFault}
+use Rattle.scenario_files.specs.declared.call.Words.{Words}
+use Rattle.scenario_files.specs.declared.draft.Approach.TheVariants.{Basic, Focused}
+use Rattle.scenario_files.specs.declared.faults.WordFault.{WordFault}
+use Rattle.scenario_files.specs.declared.faults.WordFault.TheVariants as word_fault
+use Rattle.tuner.specs.Lines.{seats_line, unbuilt_line}
+use Rattle.tuner.specs.Problem.{Problem, Reading, Reads, Bad, called, file_by, problem_by, ◌>>=◌}
 use Rattle.tuner.specs.Promises as promises
 use Rattle.tuner.specs.Refusals.{IsCause, IsNext}
 use Rattle.tuner.specs.Seats.{spawner_of, first_count, first_run}
@@ -20,28 +25,68 @@ reported : (call : promises.Call) (taking : promises.Taking) (result end : Statu
 reported call taking result end text ends (promises.made said) = record { end = end; text = text; ends = ends; said = said }
 reported call taking result end text ends (promises.not_made said) = record { end = status.NoMemory; text = _; ends = promises.no_memory refl refl; said = said }
 
--- words or files that make no problem
-pub ending_refused : (call : promises.Call) (taking : promises.Taking) (result : Status) (e : Refusal)
-    → IsCause e call.contents (problem_of call.words) (IsNext call.words call.contents) call.reads_failed call.reads_failed'
+-- what reads by the words reads by the call
+by_call : {A : Type 0} (words : List (List ℕ)) (given : Words) (told : Option (List ℕ → Option (List ℕ))) (read : (List ℕ → Option (List ℕ)) → Words → Reading A) (r : Reading A)
+    → words_read words ≡ Ok given → IfSome told (λ c. read c given ≡ r) → IfSome told (λ c. (called (words_read words) >>= read c) ≡ r)
+by_call words given None read r e h = tt
+by_call words given (Some c) read r e h = ap (λ w. called w >>= read c) e ∙ h
+
+-- words and files that state a problem
+pub stated_by : (call : promises.Call) (given : Words) (problem : Problem) → words_read call.words ≡ Ok given
+    → IfSome call.contents (λ c. problem_by c given ≡ Reads problem) → promises.States call problem
+stated_by call given problem e h = record {
+  called = record { given = given; reads = e };
+  reads = by_call call.words given call.contents problem_by (Reads problem) e h;
+}
+
+-- words that are no call
+pub ending_misused : (call : promises.Call) (taking : promises.Taking) (result : Status) (e : WordFault) → IsWordFault e (words_read call.words)
+    → promises.ReportsMisuse e taking result → promises.Ending call taking result
+ending_misused call taking result (word_fault.At place) cause said =
+    reported call taking result (status.Usage place) _ (promises.misused place refl refl cause) said
+ending_misused call taking result word_fault.Memory cause said = record { end = status.NoMemory; text = _; ends = promises.no_memory refl refl; said = said }
+
+-- files that make no problem
+pub ending_refused : (call : promises.Call) (taking : promises.Taking) (result : Status) (e : Refusal) (given : Words) → words_read call.words ≡ Ok given
+    → IsCause e call.contents (λ c. problem_by c given) (IsNext given call.contents) call.reads_failed call.reads_failed'
     → promises.ReportsRefusal e taking result → promises.Ending call taking result
-ending_refused call taking result refusal.Unbuilt cause said = record { end = status.Unbuilt; text = _; ends = promises.refused refl refl cause; said = said }
-ending_refused call taking result (refusal.BadFile kind name line what) cause said =
-    reported call taking result (status.BadFile kind line what) _ (promises.bad kind name line what refl refl cause) said
-ending_refused call taking result (refusal.ReadFault kind name) cause said =
-    reported call taking result (status.ReadFault kind) _ (promises.unread kind name refl refl cause.1 cause.0) said
-ending_refused call taking result refusal.Memory cause said = record { end = status.NoMemory; text = _; ends = promises.no_memory refl refl; said = said }
+ending_refused call taking result (refusal.BadFile kind name line what) given e cause said =
+    let bad : promises.IsBadFile call kind line what = record {
+      name = name;
+      called = record { given = given; reads = e };
+      first = by_call call.words given call.contents problem_by (Bad kind name line what) e cause;
+    } in
+    reported call taking result (status.BadFile kind line what) _ (promises.bad kind line what bad refl refl) said
+ending_refused call taking result (refusal.ReadFault kind name) given e cause said =
+    let unread : promises.IsUnread call kind = record {
+      name = name;
+      called = record { given = given; reads = e };
+      next = by_call call.words given call.contents (λ c w. file_by c w kind) (Reads name) e cause.1;
+      rose = cause.0;
+    } in
+    reported call taking result (status.ReadFault kind) _ (promises.unread kind unread refl refl) said
+ending_refused call taking result refusal.Memory given e cause said = record { end = status.NoMemory; text = _; ends = promises.no_memory refl refl; said = said }
 
--- a problem without a seat
-pub ending_unseated : (call : promises.Call) (taking : promises.Taking) (result : Status) (problem : Problem) → promises.States call problem → call.seats ≡ 0
-    → promises.Reported taking result (status.TooFewSeats 1 0) (seats_line 1 0) → promises.Ending call taking result
-ending_unseated call taking result problem stated none said =
-    let P : ℕ → Type 0 = λ n. promises.Reported taking result (status.TooFewSeats 1 n) (seats_line 1 n) in
-    reported call taking result (status.TooFewSeats 1 call.seats) _ (promises.no_seat problem refl refl stated (omega arith)) (subst P (sym none) said)
+-- a problem with too few seats
+pub ending_unseated : (call : promises.Call) (taking : promises.Taking) (result : Status) (problem : Problem) (asked seats : ℕ) → promises.States call problem
+    → asked ≡ problem.rules.workers → seats ≡ call.seats → seats < asked
+    → promises.Reported taking result (status.TooFewSeats asked seats) (seats_line asked seats) → promises.Ending call taking result
+ending_unseated call taking result problem asked seats stated workers all fewer said =
+    let P : ℕ → Type 0 = λ n. promises.Reported taking result (status.TooFewSeats n seats) (seats_line n seats) in
+    let Q : ℕ → Type 0 = λ n. promises.Reported taking result (status.TooFewSeats problem.rules.workers n) (seats_line problem.rules.workers n) in
+    reported call taking result (status.TooFewSeats problem.rules.workers call.seats) _
+    (promises.unseated problem refl refl stated (omega (arith, workers, all, fewer))) (subst Q all (subst P workers said))
 
--- the default settings were run
-pub ending_ran : (call : promises.Call) (taking : promises.Taking) (result : Status) (problem : Problem) → promises.States call problem → 1 ≤ call.seats
-    → promises.RunEnding call.running problem taking result → promises.Ending call taking result
-ending_ran call taking result problem stated seated ran = record { end = ran.end; text = ran.text; ends = promises.ran problem stated seated ran.ends; said = ran.said }
+-- FocusedILS is asked for
+pub ending_focused : (call : promises.Call) (taking : promises.Taking) (result : Status) (problem : Problem) → promises.States call problem → promises.IsSeated call problem
+    → problem.approach ≡ Focused → promises.Said taking status.Unbuilt result unbuilt_line → promises.Ending call taking result
+ending_focused call taking result problem stated seated focused said =
+    record { end = status.Unbuilt; text = _; ends = promises.unbuilt problem refl refl stated seated focused; said = said }
+
+-- the search was run
+pub ending_ran : (call : promises.Call) (taking : promises.Taking) (result : Status) (problem : Problem) → promises.States call problem → promises.IsSeated call problem
+    → problem.approach ≡ Basic → promises.RunEnding call.running problem taking result → promises.Ending call taking result
+ending_ran call taking result problem stated seated basic ran = record { end = ran.end; text = ran.text; ends = promises.ran problem stated seated basic ran.ends; said = ran.said }
 
 -- what the first of some seats tells before and after it is written
 pub seats_tell : {S : Type 0} (truth : Option (Key → Outcome)) (tables : Problem → Table) (faults : S → ℕ) (failed : S → Option runs.Run) (seats : List (Seat S)) (seat after : Seat S) (before : S) (problem : Problem) (taking : promises.Taking) (result : Status)
@@ -52,13 +97,6 @@ seats_tell truth tables faults failed [] seat after before problem taking result
 seats_tell truth tables faults failed (s ∷ later) seat after before problem taking result some same ran =
     let P : ℕ → Type 0 = λ n. promises.RunEnding (record { truth = truth; tables = tables; faults = n; faults' = faults (spawner_of after); failed_run = failed (spawner_of after) }) problem taking result in
     subst P (ap faults same) ran
-
-pub not_empty : (n : ℕ) (b : Bool) → b ≡ (n == 0) → b ≡ false → 1 ≤ n
-not_empty zero b e h = absurd (cc)
-not_empty (suc n) b e h = omega arith
-
-pub empty : (n : ℕ) (b : Bool) → b ≡ (n == 0) → b ≡ true → n ≡ 0
-empty n b e h = grind (arith, nat_tests)
 
 -- what holds of each element and of the new first one
 pub all_set_first : {A : Type 0} (P : A → Type 0) (xs : List A) (y : A) → ((k : ℕ) (d : A) → k < length xs → P (get_or xs k d)) → P y → (k : ℕ) (d : A) → k < length (set xs 0 y) → P (get_or (set xs 0 y) k d)

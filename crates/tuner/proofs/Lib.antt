@@ -1,4 +1,3 @@
-pub mod Utf8
 pub mod Settings
 pub mod Costs
 pub mod Taking

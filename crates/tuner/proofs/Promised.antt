@@ -1,13 +1,14 @@
 -- The promises of the top call follow from how it ended.
-use Rattle.std.proofs.Common.{ℕ, ◌≡◌, ◌≤◌, ◌⊎◌, List, map, Option, Some, refl, sym, ap, subst, ◌∙◌, inl, inr, arith}
-use Rattle.std.specs.Prelude.{IfSome, IsSome}
+use Rattle.std.proofs.Common.{ℕ, ◌≡◌, ◌<◌, ◌⊎◌, Bool, true, List, map, Option, Some, refl, sym, ap, subst, ◌∙◌, inl, inr, arith}
+use Rattle.std.specs.Prelude.{IfSome, IsSome, IsTrue}
 use Rattle.outside.specs.Counts.{Rose}
 use Rattle.outside.specs.Meanings.{after_taking}
 use Rattle.param_space.specs.Space.{Lists}
 use Rattle.uncapped.specs.Procedure.{Incumbent, Finished, Aborted}
 use Rattle.uncapped.specs.Uncapped.{Run}
+use Rattle.scenario_files.specs.declared.draft.Approach.TheVariants.{Basic, Focused}
 use Rattle.tuner.specs.Lines.{all_lines, output_of}
-use Rattle.tuner.specs.Problem.{Problem, Reading, Reads, Refused, Bad, problem_of}
+use Rattle.tuner.specs.Problem.{Problem, Reading, Reads, Misused, Bad, called, problem_by, problem_of, ◌>>=◌}
 use Rattle.tuner.specs.Promises as promises
 use Rattle.tuner.specs.Writing.{WroteBadly, failed, nothing_taken}
 use Rattle.tuner.specs.declared.status.FileKind.{FileKind}
@@ -21,9 +22,9 @@ same_output space run entries last ran =
     ap (λ es. all_lines space es last) ran.all ∙ ap (all_lines space (map (λ added. added.entry) run.entries)) ran.end
 
 -- what the runs' end says of the answer, where it was written whole
-ran_cause : (call : promises.Call) (taking : promises.Taking) (problem : Problem) (end : Status) (text : List ℕ) → promises.States call problem → 1 ≤ call.seats
+ran_cause : (call : promises.Call) (taking : promises.Taking) (problem : Problem) (end : Status) (text : List ℕ) → promises.States call problem → promises.IsSeated call problem → problem.approach ≡ Basic
     → promises.EndsRunning call.running problem end text → taking.after ≡ after_taking taking.before text → promises.HasCause call taking end
-ran_cause call taking problem end text stated seated (promises.finished entries last e t ran) taken =
+ran_cause call taking problem end text stated seated basic (promises.finished entries last e t ran) taken =
     let P : Status → Type 0 = promises.HasCause call taking in
     let headline : promises.Headline call taking = record {
       problem = problem;
@@ -33,11 +34,11 @@ ran_cause call taking problem end text stated seated (promises.finished entries 
       printed = λ told. taken ∙ ap (after_taking taking.before) (t ∙ same_output problem.rules.space _ entries last (ran told));
     } in
     subst P (sym e) headline
-ran_cause call taking problem end text stated seated (promises.aborted e t ended) taken =
+ran_cause call taking problem end text stated seated basic (promises.aborted e t ended) taken =
     let P : Status → Type 0 = promises.HasCause call taking in
-    let unbuilt : promises.IsUnbuilt call = promises.aborted problem stated seated ended in
+    let unbuilt : promises.IsUnbuilt call = promises.aborted problem stated seated basic ended in
     subst P (sym e) unbuilt
-ran_cause call taking problem end text stated seated (promises.child_failed config place e t sound inside run rose) taken =
+ran_cause call taking problem end text stated seated basic (promises.child_failed config place e t sound inside run rose) taken =
     let P : Status → Type 0 = promises.HasCause call taking in
     let fault : promises.IsChildFault call taking = record {
       problem = problem;
@@ -52,29 +53,30 @@ ran_cause call taking problem end text stated seated (promises.child_failed conf
       printed = taken ∙ ap (after_taking taking.before) t;
     } in
     subst P (sym e) (refl, fault)
-ran_cause call taking problem end text stated seated (promises.no_memory e t) taken =
+ran_cause call taking problem end text stated seated basic (promises.no_memory e t) taken =
     let P : Status → Type 0 = promises.HasCause call taking in
     subst P (sym e) tt
 
 -- what the call's end says of the answer, where it was written whole
 end_cause : (call : promises.Call) (taking : promises.Taking) (end : Status) (text : List ℕ) → promises.Ends call end text → taking.after ≡ after_taking taking.before text → promises.HasCause call taking end
-end_cause call taking end text (promises.refused e t h) taken =
+end_cause call taking end text (promises.misused place e t h) taken =
     let P : Status → Type 0 = promises.HasCause call taking in
-    let unbuilt : promises.IsUnbuilt call = promises.refused h in
-    subst P (sym e) unbuilt
-end_cause call taking end text (promises.bad kind name line what e t h) taken =
+    subst P (sym e) h
+end_cause call taking end text (promises.bad kind line what cause e t) taken =
     let P : Status → Type 0 = promises.HasCause call taking in
-    let bad : promises.IsBadFile call kind line what = record { name = name; first = h } in
-    subst P (sym e) bad
-end_cause call taking end text (promises.unread kind name e t next rose) taken =
+    subst P (sym e) cause
+end_cause call taking end text (promises.unread kind cause e t) taken =
     let P : Status → Type 0 = promises.HasCause call taking in
-    let unread : promises.IsUnread call kind = record { name = name; next = next; rose = rose } in
-    subst P (sym e) unread
-end_cause call taking end text (promises.no_seat problem e t stated none) taken =
+    subst P (sym e) cause
+end_cause call taking end text (promises.unseated problem e t stated fewer) taken =
     let P : Status → Type 0 = promises.HasCause call taking in
-    let too_few : promises.IsTooFew call 1 call.seats = record { problem = problem; stated = stated; one = refl; all = refl; fewer = none } in
+    let too_few : promises.IsTooFew call problem.rules.workers call.seats = record { problem = problem; stated = stated; workers = refl; all = refl; fewer = fewer } in
     subst P (sym e) too_few
-end_cause call taking end text (promises.ran problem stated seated ends) taken = ran_cause call taking problem end text stated seated ends taken
+end_cause call taking end text (promises.unbuilt problem e t stated seated focused) taken =
+    let P : Status → Type 0 = promises.HasCause call taking in
+    let unbuilt : promises.IsUnbuilt call = promises.focused problem stated seated focused in
+    subst P (sym e) unbuilt
+end_cause call taking end text (promises.ran problem stated seated basic ends) taken = ran_cause call taking problem end text stated seated basic ends taken
 end_cause call taking end text (promises.no_memory e t) taken =
     let P : Status → Type 0 = promises.HasCause call taking in
     subst P (sym e) tt
@@ -100,53 +102,182 @@ headline_of call taking result ending ok =
     let P : Status → Type 0 = promises.HasCause call taking in
     subst P ok (cause_of call taking result ending)
 
--- a problem that is read is the one that is read
-same_problem : (told : Option (List ℕ → Option (List ℕ))) (contents : List ℕ → Option (List ℕ)) (words : List (List ℕ)) (r : Reading Problem) → told ≡ Some contents
-    → IfSome told (λ c. problem_of words c ≡ r) → problem_of words contents ≡ r
-same_problem told contents words r e h =
-    let P : Option (List ℕ → Option (List ℕ)) → Type 0 = λ t. IfSome t (λ c. problem_of words c ≡ r) in
+-- ---- what is known of told contents
+
+told_reading : {A : Type 0} (told : Option (List ℕ → Option (List ℕ))) (contents : List ℕ → Option (List ℕ)) (read : (List ℕ → Option (List ℕ)) → A) (r : A)
+    → told ≡ Some contents → IfSome told (λ c. read c ≡ r) → read contents ≡ r
+told_reading told contents read r e h =
+    let P : Option (List ℕ → Option (List ℕ)) → Type 0 = λ t. IfSome t (λ c. read c ≡ r) in
     subst P e h
 
-unbuilt_complete : (call : promises.Call) (taking : promises.Taking) → promises.IsUnbuilt call → (contents : List ℕ → Option (List ℕ)) (problem : Problem)
-    → call.contents ≡ Some contents → problem_of call.words contents ≡ Reads problem → IsSome call.running.truth
-    → (promises.true_run call.running problem).end ≡ Finished → ⊥
-unbuilt_complete call taking (promises.refused h) contents problem told reads truth finished =
-    let refuses = same_problem call.contents contents call.words Refused told h in cc
-unbuilt_complete call taking (promises.aborted problem' stated seated ended) contents problem told reads truth finished =
-    let reads' = same_problem call.contents contents call.words (Reads problem') told stated in
-    let same : problem' ≡ problem = cc in
-    let P : Problem → Type 0 = λ p. (promises.true_run call.running p).end ≡ Aborted in
-    let aborts = subst P same (ended truth) in
-    cc
+-- what is read of told contents
+pub record AreRead (call : promises.Call) (r : Reading Problem) : Type 0 where
+  pub contents : List ℕ → Option (List ℕ)
+  pub told : call.contents ≡ Some contents
+  pub reads : problem_of call.words contents ≡ r
 
-bad_complete : (call : promises.Call) (kind : FileKind) (line : ℕ) (what : What) → promises.IsBadFile call kind line what → (contents : List ℕ → Option (List ℕ)) (problem : Problem)
-    → call.contents ≡ Some contents → problem_of call.words contents ≡ Reads problem → ⊥
-bad_complete call kind line what h contents problem told reads =
-    let bad = same_problem call.contents contents call.words (Bad kind h.name line what) told h.first in cc
+same_reading : (call : promises.Call) (r q : Reading Problem) → AreRead call r → IfSome call.contents (λ c. problem_of call.words c ≡ q) → r ≡ q
+same_reading call r q a h = sym a.reads ∙ told_reading call.contents a.contents (problem_of call.words) q a.told h
+
+same_problem : (call : promises.Call) (p q : Problem) → AreRead call (Reads p) → promises.States call q → p ≡ q
+same_problem call p q a stated = let e = same_reading call (Reads p) (Reads q) a stated.reads in cc
+
+not_bad : (call : promises.Call) (p : Problem) (kind : FileKind) (line : ℕ) (what : What) → AreRead call (Reads p) → promises.IsBadFile call kind line what → ⊥
+not_bad call p kind line what a h = let e = same_reading call (Reads p) (Bad kind h.name line what) a h.first in cc
+
+not_stated : (call : promises.Call) (p : Problem) (kind : FileKind) (name : List ℕ) (line : ℕ) (what : What) → AreRead call (Bad kind name line what) → promises.States call p → ⊥
+not_stated call p kind name line what a stated = let e = same_reading call (Bad kind name line what) (Reads p) a stated.reads in cc
+
+misused_called : (call : promises.Call) (place : ℕ) → promises.IsMisused call place → promises.IsCalled call → ⊥
+misused_called call place h called = let e = called.reads in cc
+
+-- words with a wrong key word come to the same, whatever the files are
+misused_reading : (call : promises.Call) (r : Reading Problem) (place : ℕ) → AreRead call r → promises.IsMisused call place → r ≡ Misused place
+misused_reading call r place a h = sym a.reads ∙ ap (λ w. called w >>= problem_by a.contents) h
+
+-- ---- where refusals come
+
+-- the end is this one, or one that may come in between
+abbrev pub ends_or : Status → (Status → Bool) → Status → Type 0
+ends_or wanted may end = (end ≡ wanted) ⊎ IsTrue (may end)
+
+may_end : (may : Status → Bool) (wanted end other : Status) → end ≡ other → may other ≡ true → ends_or wanted may end
+may_end may wanted end other e h = inr (ap may e ∙ h)
+
+-- an end as it is said
+said_or : (taking : promises.Taking) (end result : Status) (text : List ℕ) (may : Status → Bool) (wanted : Status) → promises.Said taking end result text
+    → may status.WriteFault ≡ true → may status.NoMemory ≡ true → ends_or wanted may end → ends_or wanted may result
+said_or taking end result text may wanted (promises.whole same taken) w n h = subst (ends_or wanted may) (sym same) h
+said_or taking end result text may wanted (promises.unwritten same part bad) w n h = may_end may wanted result status.WriteFault same w
+said_or taking end result text may wanted (promises.no_memory same part) w n h = may_end may wanted result status.NoMemory same n
+
+misused_end : (call : promises.Call) (end : Status) (text : List ℕ) (place : ℕ) → promises.IsMisused call place → promises.Ends call end text → ends_or (status.Usage place) promises.is_unsaid end
+misused_end call end text place h (promises.misused place' e t h') = let P : ℕ → Type 0 = λ n. end ≡ status.Usage n in let same : place' ≡ place = cc in inl (subst P same e)
+misused_end call end text place h (promises.bad kind line what cause e t) = absurd (misused_called call place h cause.called)
+misused_end call end text place h (promises.unread kind cause e t) = absurd (misused_called call place h cause.called)
+misused_end call end text place h (promises.unseated problem e t stated fewer) = absurd (misused_called call place h stated.called)
+misused_end call end text place h (promises.unbuilt problem e t stated seated focused) = absurd (misused_called call place h stated.called)
+misused_end call end text place h (promises.ran problem stated seated basic ends) = absurd (misused_called call place h stated.called)
+misused_end call end text place h (promises.no_memory e t) = may_end promises.is_unsaid (status.Usage place) end status.NoMemory e refl
+
+pub refuses_misused : (call : promises.Call) (taking : promises.Taking) (result : Status) → promises.Ending call taking result → promises.RefusesMisused call result
+refuses_misused call taking result ending = record {
+  refuses = λ place h. said_or taking ending.end result ending.text promises.is_unsaid (status.Usage place) ending.said refl refl (misused_end call ending.end ending.text place h ending.ends);
+}
+
+faulty_end : (call : promises.Call) (end : Status) (text : List ℕ) (kind : FileKind) (name : List ℕ) (line : ℕ) (what : What) → AreRead call (Bad kind name line what) → promises.Ends call end text
+    → ends_or (status.BadFile kind line what) promises.yields end
+faulty_end call end text kind name line what a (promises.misused place e t h) = absurd (let same = misused_reading call _ place a h in cc)
+faulty_end call end text kind name line what a (promises.bad kind' line' what' cause e t) =
+    let same = same_reading call (Bad kind name line what) (Bad kind' cause.name line' what') a cause.first in
+    let k : kind' ≡ kind = cc in
+    let l : line' ≡ line = cc in
+    let w : what' ≡ what = cc in
+    inl (e ∙ (λ i. status.BadFile (k i) (l i) (w i)))
+faulty_end call end text kind name line what a (promises.unread kind' cause e t) = may_end promises.yields (status.BadFile kind line what) end (status.ReadFault kind') e refl
+faulty_end call end text kind name line what a (promises.unseated problem e t stated fewer) = absurd (not_stated call problem kind name line what a stated)
+faulty_end call end text kind name line what a (promises.unbuilt problem e t stated seated focused) = absurd (not_stated call problem kind name line what a stated)
+faulty_end call end text kind name line what a (promises.ran problem stated seated basic ends) = absurd (not_stated call problem kind name line what a stated)
+faulty_end call end text kind name line what a (promises.no_memory e t) = may_end promises.yields (status.BadFile kind line what) end status.NoMemory e refl
+
+pub refuses_faulty : (call : promises.Call) (taking : promises.Taking) (result : Status) → promises.Ending call taking result → promises.RefusesFaulty call result
+refuses_faulty call taking result ending = record {
+  refuses = λ contents kind name line what told bad.
+      said_or taking ending.end result ending.text promises.yields (status.BadFile kind line what) ending.said refl refl
+      (faulty_end call ending.end ending.text kind name line what (record { contents = contents; told = told; reads = bad }) ending.ends);
+}
+
+-- a problem is stated: what the ends say of it
+problem_end : (call : promises.Call) (end : Status) (text : List ℕ) (p : Problem) (wanted : Status) → AreRead call (Reads p) → promises.Ends call end text
+    → (call.seats < p.rules.workers → end ≡ status.TooFewSeats p.rules.workers call.seats → ends_or wanted promises.yields end)
+    → (promises.IsSeated call p → p.approach ≡ Focused → end ≡ status.Unbuilt → ends_or wanted promises.yields end)
+    → (promises.IsSeated call p → p.approach ≡ Basic → ends_or wanted promises.yields end)
+    → ends_or wanted promises.yields end
+problem_end call end text p wanted a (promises.misused place e t h) few focused ran = absurd (let same = misused_reading call _ place a h in cc)
+problem_end call end text p wanted a (promises.bad kind line what cause e t) few focused ran = absurd (not_bad call p kind line what a cause)
+problem_end call end text p wanted a (promises.unread kind cause e t) few focused ran = may_end promises.yields wanted end (status.ReadFault kind) e refl
+problem_end call end text p wanted a (promises.unseated q e t stated fewer) few focused ran =
+    let same : q ≡ p = sym (same_problem call p q a stated) in
+    let P : Problem → Type 0 = λ r. call.seats < r.rules.workers in
+    let Q : Problem → Type 0 = λ r. end ≡ status.TooFewSeats r.rules.workers call.seats in
+    few (subst P same fewer) (subst Q same e)
+problem_end call end text p wanted a (promises.unbuilt q e t stated seated is) few focused ran =
+    let same : q ≡ p = sym (same_problem call p q a stated) in
+    let P : Problem → Type 0 = λ r. promises.IsSeated call r in
+    let Q : Problem → Type 0 = λ r. r.approach ≡ Focused in
+    focused (subst P same seated) (subst Q same is) e
+problem_end call end text p wanted a (promises.ran q stated seated is ends) few focused ran =
+    let same : q ≡ p = sym (same_problem call p q a stated) in
+    let P : Problem → Type 0 = λ r. promises.IsSeated call r in
+    let Q : Problem → Type 0 = λ r. r.approach ≡ Basic in
+    ran (subst P same seated) (subst Q same is)
+problem_end call end text p wanted a (promises.no_memory e t) few focused ran = may_end promises.yields wanted end status.NoMemory e refl
+
+unseated_end : (call : promises.Call) (end : Status) (text : List ℕ) (p : Problem) → AreRead call (Reads p) → call.seats < p.rules.workers → promises.Ends call end text
+    → ends_or (status.TooFewSeats p.rules.workers call.seats) promises.yields end
+unseated_end call end text p a fewer ends =
+    problem_end call end text p (status.TooFewSeats p.rules.workers call.seats) a ends
+    (λ _ e. inl e) (λ seated _ _. absurd (omega (arith, seated, fewer))) (λ seated _. absurd (omega (arith, seated, fewer)))
+
+pub refuses_unseated : (call : promises.Call) (taking : promises.Taking) (result : Status) → promises.Ending call taking result → promises.RefusesUnseated call result
+refuses_unseated call taking result ending = record {
+  refuses = λ contents problem told reads fewer.
+      said_or taking ending.end result ending.text promises.yields (status.TooFewSeats problem.rules.workers call.seats) ending.said refl refl
+      (unseated_end call ending.end ending.text problem (record { contents = contents; told = told; reads = reads }) fewer ending.ends);
+}
+
+focused_end : (call : promises.Call) (end : Status) (text : List ℕ) (p : Problem) → AreRead call (Reads p) → promises.IsSeated call p → p.approach ≡ Focused → promises.Ends call end text
+    → ends_or status.Unbuilt promises.yields end
+focused_end call end text p a seated is ends =
+    problem_end call end text p status.Unbuilt a ends
+    (λ fewer _. absurd (omega (arith, seated, fewer))) (λ _ _ e. inl e) (λ _ basic. absurd (cc))
+
+pub refuses_focused : (call : promises.Call) (taking : promises.Taking) (result : Status) → promises.Ending call taking result → promises.RefusesFocused call result
+refuses_focused call taking result ending = record {
+  refuses = λ contents problem told reads seated is.
+      said_or taking ending.end result ending.text promises.yields status.Unbuilt ending.said refl refl
+      (focused_end call ending.end ending.text problem (record { contents = contents; told = told; reads = reads }) seated is ending.ends);
+}
+
+-- ---- completeness
+
+unbuilt_complete : (call : promises.Call) (p : Problem) → AreRead call (Reads p) → p.approach ≡ Basic → IsSome call.running.truth
+    → (promises.true_run call.running p).end ≡ Finished → promises.IsUnbuilt call → ⊥
+unbuilt_complete call p a basic truth finished (promises.focused q stated seated is) =
+    let P : Problem → Type 0 = λ r. r.approach ≡ Focused in
+    let is' = subst P (sym (same_problem call p q a stated)) is in cc
+unbuilt_complete call p a basic truth finished (promises.aborted q stated seated is ended) =
+    let P : Problem → Type 0 = λ r. (promises.true_run call.running r).end ≡ Aborted in
+    let aborts = subst P (sym (same_problem call p q a stated)) (ended truth) in cc
 
 written_complete : (f f' e e' : ℕ) → WroteBadly f f' e e' → ¬ Rose f f' → ¬ Rose e e' → ⊥
 written_complete f f' e e' (failed rose) stays stays' = stays rose
 written_complete f f' e e' (nothing_taken rose) stays stays' = stays' rose
 
+too_few_complete : (call : promises.Call) (p : Problem) (asked given : ℕ) → AreRead call (Reads p) → promises.IsSeated call p → promises.IsTooFew call asked given → ⊥
+too_few_complete call p asked given a seated h =
+    let P : Problem → Type 0 = λ r. asked ≡ r.rules.workers in
+    let workers = subst P (sym (same_problem call p h.problem a h.stated)) h.workers in
+    omega (arith, workers, h.all, h.fewer, seated)
+
 -- where nothing fails and nothing aborts, the answer is Ok or NoMemory
 complete_from : (call : promises.Call) (taking : promises.Taking) (result : Status) → promises.HasCause call taking result
-    → (contents : List ℕ → Option (List ℕ)) (problem : Problem)
-    → call.contents ≡ Some contents → problem_of call.words contents ≡ Reads problem → 1 ≤ call.seats
-    → IsSome call.running.truth → (promises.true_run call.running problem).end ≡ Finished
+    → (p : Problem) → AreRead call (Reads p) → promises.IsSeated call p → p.approach ≡ Basic
+    → IsSome call.running.truth → (promises.true_run call.running p).end ≡ Finished
     → ¬ Rose call.reads_failed call.reads_failed' → ¬ Rose call.running.faults call.running.faults'
     → ¬ Rose taking.faults taking.faults' → ¬ Rose taking.empties taking.empties'
     → (result ≡ status.Ok) ⊎ (result ≡ status.NoMemory)
-complete_from call taking status.Ok h contents problem told reads seated truth finished no1 no2 no3 no4 = inl refl
-complete_from call taking (status.BadFile kind line what) h contents problem told reads seated truth finished no1 no2 no3 no4 =
-    absurd (bad_complete call kind line what h contents problem told reads)
-complete_from call taking (status.ReadFault kind) h contents problem told reads seated truth finished no1 no2 no3 no4 = absurd (no1 h.rose)
-complete_from call taking status.WriteFault h contents problem told reads seated truth finished no1 no2 no3 no4 = absurd (written_complete _ _ _ _ h no3 no4)
-complete_from call taking (status.ChildFault seat) h contents problem told reads seated truth finished no1 no2 no3 no4 = absurd (no2 h.1.rose)
-complete_from call taking status.NoMemory h contents problem told reads seated truth finished no1 no2 no3 no4 = inr refl
-complete_from call taking (status.TooFewSeats asked given) h contents problem told reads seated truth finished no1 no2 no3 no4 =
-    absurd (let one = h.one in let all = h.all in let fewer = h.fewer in omega arith)
-complete_from call taking status.Unbuilt h contents problem told reads seated truth finished no1 no2 no3 no4 =
-    absurd (unbuilt_complete call taking h contents problem told reads truth finished)
+complete_from call taking status.Ok h p a seated basic truth finished no1 no2 no3 no4 = inl refl
+complete_from call taking (status.Usage place) h p a seated basic truth finished no1 no2 no3 no4 = absurd (let same = misused_reading call _ place a h in cc)
+complete_from call taking (status.BadFile kind line what) h p a seated basic truth finished no1 no2 no3 no4 = absurd (not_bad call p kind line what a h)
+complete_from call taking (status.ReadFault kind) h p a seated basic truth finished no1 no2 no3 no4 = absurd (no1 h.rose)
+complete_from call taking status.WriteFault h p a seated basic truth finished no1 no2 no3 no4 = absurd (written_complete _ _ _ _ h no3 no4)
+complete_from call taking (status.ChildFault seat) h p a seated basic truth finished no1 no2 no3 no4 = absurd (no2 h.1.rose)
+complete_from call taking status.NoMemory h p a seated basic truth finished no1 no2 no3 no4 = inr refl
+complete_from call taking (status.TooFewSeats asked given) h p a seated basic truth finished no1 no2 no3 no4 = absurd (too_few_complete call p asked given a seated h)
+complete_from call taking status.Unbuilt h p a seated basic truth finished no1 no2 no3 no4 = absurd (unbuilt_complete call p a basic truth finished h)
 
 pub complete_of : (call : promises.Call) (taking : promises.Taking) (result : Status) → promises.Ending call taking result → promises.IsComplete call taking result
-complete_of call taking result ending = record { complete = complete_from call taking result (cause_of call taking result ending) }
+complete_of call taking result ending = record {
+  complete = λ contents problem told reads. complete_from call taking result (cause_of call taking result ending) problem (record { contents = contents; told = told; reads = reads });
+}

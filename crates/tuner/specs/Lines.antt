@@ -42,6 +42,9 @@ unbuilt_line = codes "unbuilt\n"
 abbrev pub no_memory_line : List ℕ
 no_memory_line = codes "nomemory\n"
 
+abbrev pub usage_line : ℕ → List ℕ
+usage_line place = codes "usage " ++ (decimal place ++ codes "\n")
+
 abbrev pub read_fault_line : List ℕ → List ℕ
 read_fault_line name = codes "readfault " ++ (name ++ codes "\n")
 

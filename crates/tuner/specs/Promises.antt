@@ -1,5 +1,5 @@
 -- How the top call ends: its causes, and what it leaves on its output.
-use Rattle.std.specs.Prelude.{ℕ, ◌≡◌, ◌<◌, ◌≤◌, ◌⊎◌, Bool, true, false, IsTrue, map, length, List, Option, Some, IfSome, IsSome}
+use Rattle.std.specs.Prelude.{ℕ, ◌≡◌, ◌<◌, ◌≤◌, ◌⊎◌, Bool, true, false, IsTrue, map, length, List, Option, Some, Ok, Err, IfSome, IsSome}
 use Rattle.objective.specs.Costs.{Table}
 use Rattle.objective.specs.declared.Outcome.{Outcome}
 use Rattle.outside.specs.declared.runs.Key.{Key}
@@ -7,12 +7,16 @@ use Rattle.outside.specs.declared.runs.Run as runs
 use Rattle.outside.specs.Counts.{Rose}
 use Rattle.outside.specs.Meanings.{after_taking}
 use Rattle.param_space.specs.Configurations.{IsConfig}
+use Rattle.scenario_files.specs.Words.{words_read}
+use Rattle.scenario_files.specs.declared.call.Words.{Words}
+use Rattle.scenario_files.specs.declared.draft.Approach.TheVariants.{Basic, Focused}
+use Rattle.scenario_files.specs.declared.faults.WordFault.{WordFault}
+use Rattle.scenario_files.specs.declared.faults.WordFault.TheVariants as word_fault
 use Rattle.uncapped.specs.Procedure.{Incumbent, Finished, Aborted}
 use Rattle.uncapped.specs.Uncapped.{Run}
 use Rattle.tuner.specs.Evaluating.{IsPlace}
-use Rattle.tuner.specs.Lines.{output_of, all_lines, unbuilt_line, no_memory_line, bad_file_line, read_fault_line, seats_line, child_fault_line}
-use Rattle.tuner.specs.Problem.{Reads, Refused, Bad, Problem, problem_of, run_at, uncapped_run}
-use Rattle.tuner.specs.Refusals.{IsNext}
+use Rattle.tuner.specs.Lines.{output_of, all_lines, unbuilt_line, no_memory_line, usage_line, bad_file_line, read_fault_line, seats_line, child_fault_line}
+use Rattle.tuner.specs.Problem.{Reads, Bad, Problem, problem_of, file_name, run_at, uncapped_run}
 use Rattle.tuner.specs.Seats.{first_count, first_run}
 use Rattle.tuner.specs.Writing.{TookPartOf, WroteBadly}
 use Rattle.tuner.specs.declared.reading.refusal.Refusal.{Refusal}
@@ -58,9 +62,23 @@ call_by words contents reads_failed files files' truth tables faults failed_run 
   };
 }
 
+-- the key word at this place is the first that is wrong; or none is, there are so many words and none names the scenario file
+abbrev pub IsMisused : Call → ℕ → Type 0
+IsMisused call place = words_read call.words ≡ Err (word_fault.At place)
+
+-- the words have a reading
+pub record IsCalled (call : Call) : Type 0 where
+  pub given : Words
+  pub reads : words_read call.words ≡ Ok given
+
 -- the words and the files, where these are told, state this problem
-abbrev pub States : Call → Problem → Type 0
-States call problem = IfSome call.contents (λ contents. problem_of call.words contents ≡ Reads problem)
+pub record States (call : Call) (problem : Problem) : Type 0 where
+  pub called : IsCalled call
+  pub reads : IfSome call.contents (λ contents. problem_of call.words contents ≡ Reads problem)
+
+-- there are as many seats as the problem asks for
+abbrev pub IsSeated : Call → Problem → Type 0
+IsSeated call problem = problem.rules.workers ≤ call.seats
 
 -- the run of the uncapped procedure over the seats' truth
 abbrev pub true_run : Running → Problem → Run
@@ -85,17 +103,31 @@ pub data EndsRunning (running : Running) (problem : Problem) (end : Status) (tex
       → Rose running.faults running.faults' → EndsRunning running problem end text
   no_memory : end ≡ status.NoMemory → text ≡ no_memory_line → EndsRunning running problem end text
 
+-- the cause of BadFile: this fault is the first in the files, and its file was read
+pub record IsBadFile (call : Call) (kind : FileKind) (line : ℕ) (what : What) : Type 0 where
+  pub name : List ℕ
+  pub called : IsCalled call
+  pub first : IfSome call.contents (λ contents. problem_of call.words contents ≡ Bad kind name line what)
+
+-- the cause of ReadFault: the count rose, and the files before this one have a reading
+pub record IsUnread (call : Call) (kind : FileKind) : Type 0 where
+  pub name : List ℕ
+  pub called : IsCalled call
+  pub next : IfSome call.contents (λ contents. file_name call.words contents kind ≡ Reads name)
+  pub rose : Rose call.reads_failed call.reads_failed'
+
 -- how the call may end, with the whole text that it is to print then
 pub data Ends (call : Call) (end : Status) (text : List ℕ) : Type 0 where
-  refused : end ≡ status.Unbuilt → text ≡ unbuilt_line
-      → IfSome call.contents (λ contents. problem_of call.words contents ≡ Refused) → Ends call end text
-  bad : (kind : FileKind) (name : List ℕ) (line : ℕ) (what : What) → end ≡ status.BadFile kind line what → text ≡ bad_file_line name line what
-      → IfSome call.contents (λ contents. problem_of call.words contents ≡ Bad kind name line what) → Ends call end text
-  unread : (kind : FileKind) (name : List ℕ) → end ≡ status.ReadFault kind → text ≡ read_fault_line name
-      → IsNext call.words call.contents kind name → Rose call.reads_failed call.reads_failed' → Ends call end text
-  no_seat : (problem : Problem) → end ≡ status.TooFewSeats 1 call.seats → text ≡ seats_line 1 call.seats
-      → States call problem → call.seats < 1 → Ends call end text
-  ran : (problem : Problem) → States call problem → 1 ≤ call.seats → EndsRunning call.running problem end text → Ends call end text
+  misused : (place : ℕ) → end ≡ status.Usage place → text ≡ usage_line place → IsMisused call place → Ends call end text
+  bad : (kind : FileKind) (line : ℕ) (what : What) (cause : IsBadFile call kind line what) → end ≡ status.BadFile kind line what
+      → text ≡ bad_file_line cause.name line what → Ends call end text
+  unread : (kind : FileKind) (cause : IsUnread call kind) → end ≡ status.ReadFault kind → text ≡ read_fault_line cause.name → Ends call end text
+  unseated : (problem : Problem) → end ≡ status.TooFewSeats problem.rules.workers call.seats → text ≡ seats_line problem.rules.workers call.seats
+      → States call problem → call.seats < problem.rules.workers → Ends call end text
+  unbuilt : (problem : Problem) → end ≡ status.Unbuilt → text ≡ unbuilt_line
+      → States call problem → IsSeated call problem → problem.approach ≡ Focused → Ends call end text
+  ran : (problem : Problem) → States call problem → IsSeated call problem → problem.approach ≡ Basic
+      → EndsRunning call.running problem end text → Ends call end text
   no_memory : end ≡ status.NoMemory → text ≡ no_memory_line → Ends call end text
 
 -- what an output takes in a call: its bytes, where they are told, its faults and its empty takings
@@ -130,9 +162,13 @@ pub data Reported (taking : Taking) (result end : Status) (text : List ℕ) : Ty
   made : Said taking end result text → Reported taking result end text
   not_made : Said taking status.NoMemory result no_memory_line → Reported taking result end text
 
--- a refusal of words and files is said
+-- a refusal of words is said
+abbrev pub ReportsMisuse : WordFault → Taking → Status → Type 0
+ReportsMisuse (word_fault.At place) taking result = Reported taking result (status.Usage place) (usage_line place)
+ReportsMisuse word_fault.Memory taking result = Said taking status.NoMemory result no_memory_line
+
+-- a refusal of files is said
 abbrev pub ReportsRefusal : Refusal → Taking → Status → Type 0
-ReportsRefusal refusal.Unbuilt taking result = Said taking status.Unbuilt result unbuilt_line
 ReportsRefusal (refusal.BadFile kind name line what) taking result = Reported taking result (status.BadFile kind line what) (bad_file_line name line what)
 ReportsRefusal (refusal.ReadFault kind name) taking result = Reported taking result (status.ReadFault kind) (read_fault_line name)
 ReportsRefusal refusal.Memory taking result = Said taking status.NoMemory result no_memory_line
@@ -156,25 +192,15 @@ pub record Ending (call : Call) (taking : Taking) (result : Status) : Type 0 whe
 pub record Headline (call : Call) (taking : Taking) : Type 0 where
   pub problem : Problem
   pub stated : States call problem
-  pub seated : 1 ≤ call.seats
+  pub seated : IsSeated call problem
   pub finished : IsSome call.running.truth → (true_run call.running problem).end ≡ Finished
   pub printed : IsSome call.running.truth → taking.after ≡ after_taking taking.before (output_of problem.rules.space (true_run call.running problem))
 
--- the causes of Unbuilt: words or files that are refused, or a child that aborts
+-- the causes of Unbuilt: FocusedILS is asked for, or a child aborts
 pub data IsUnbuilt (call : Call) : Type 0 where
-  refused : IfSome call.contents (λ contents. problem_of call.words contents ≡ Refused) → IsUnbuilt call
-  aborted : (problem : Problem) → States call problem → 1 ≤ call.seats → (IsSome call.running.truth → (true_run call.running problem).end ≡ Aborted) → IsUnbuilt call
-
--- the cause of BadFile: this fault is the first in the files, and its file was read
-pub record IsBadFile (call : Call) (kind : FileKind) (line : ℕ) (what : What) : Type 0 where
-  pub name : List ℕ
-  pub first : IfSome call.contents (λ contents. problem_of call.words contents ≡ Bad kind name line what)
-
--- the cause of ReadFault: the count rose, and the files before this one have a reading
-pub record IsUnread (call : Call) (kind : FileKind) : Type 0 where
-  pub name : List ℕ
-  pub next : IsNext call.words call.contents kind name
-  pub rose : Rose call.reads_failed call.reads_failed'
+  focused : (problem : Problem) → States call problem → IsSeated call problem → problem.approach ≡ Focused → IsUnbuilt call
+  aborted : (problem : Problem) → States call problem → IsSeated call problem → problem.approach ≡ Basic
+      → (IsSome call.running.truth → (true_run call.running problem).end ≡ Aborted) → IsUnbuilt call
 
 -- the cause of ChildFault: the count of seat 0's spawner rose, and its failed run is the one whose place and settings are printed
 pub record IsChildFault (call : Call) (taking : Taking) : Type 0 where
@@ -182,24 +208,25 @@ pub record IsChildFault (call : Call) (taking : Taking) : Type 0 where
   pub config : List ℕ
   pub place : ℕ
   pub stated : States call problem
-  pub seated : 1 ≤ call.seats
+  pub seated : IsSeated call problem
   pub sound : IsConfig problem.rules.space config
   pub in_range : IsPlace problem.rules.max_runs place
   pub failed : call.running.failed_run ≡ Some (run_at problem config place)
   pub rose : Rose call.running.faults call.running.faults'
   pub printed : taking.after ≡ after_taking taking.before (child_fault_line problem.rules.space place config)
 
--- the cause of TooFewSeats: words and files state a problem, and there is no seat
+-- the cause of TooFewSeats: words and files state a problem that asks for more seats than there are
 pub record IsTooFew (call : Call) (asked given : ℕ) : Type 0 where
   pub problem : Problem
   pub stated : States call problem
-  pub one : asked ≡ 1
+  pub workers : asked ≡ problem.rules.workers
   pub all : given ≡ call.seats
   pub fewer : given < asked
 
 -- the cause of each answer, but want of memory
 abbrev pub HasCause : Call → Taking → Status → Type 0
 HasCause call taking status.Ok = Headline call taking
+HasCause call taking (status.Usage place) = IsMisused call place
 HasCause call taking status.Unbuilt = IsUnbuilt call
 HasCause call taking (status.BadFile kind line what) = IsBadFile call kind line what
 HasCause call taking (status.ReadFault kind) = IsUnread call kind
@@ -208,39 +235,57 @@ HasCause call taking (status.ChildFault seat) = (seat ≡ 0) × IsChildFault cal
 HasCause call taking (status.TooFewSeats asked given) = IsTooFew call asked given
 HasCause call taking status.NoMemory = Unit {0}
 
--- where everything that is handed in works, the words and files state a problem, there is a
--- seat and nothing aborts, the call ends Ok or for want of memory
+-- where everything that is handed in works, the words and files state a problem of BasicILS,
+-- there are enough seats and nothing aborts, the call ends Ok or for want of memory
 pub record IsComplete (call : Call) (taking : Taking) (result : Status) : Type 0 where
   pub complete : (contents : List ℕ → Option (List ℕ)) (problem : Problem)
-      → call.contents ≡ Some contents → problem_of call.words contents ≡ Reads problem → 1 ≤ call.seats
+      → call.contents ≡ Some contents → problem_of call.words contents ≡ Reads problem → IsSeated call problem → problem.approach ≡ Basic
       → IsSome call.running.truth → (true_run call.running problem).end ≡ Finished
       → ¬ Rose call.reads_failed call.reads_failed' → ¬ Rose call.running.faults call.running.faults'
       → ¬ Rose taking.faults taking.faults' → ¬ Rose taking.empties taking.empties'
       → (result ≡ status.Ok) ⊎ (result ≡ status.NoMemory)
 
--- an answer that any call may have: want of memory, a failed read or write
+-- an answer that any call may have: want of memory, or a failed write
+abbrev pub is_unsaid : Status → Bool
+is_unsaid status.NoMemory = true
+is_unsaid status.WriteFault = true
+is_unsaid status.Ok = false
+is_unsaid status.Unbuilt = false
+is_unsaid (status.Usage place) = false
+is_unsaid (status.BadFile kind line what) = false
+is_unsaid (status.ReadFault kind) = false
+is_unsaid (status.ChildFault seat) = false
+is_unsaid (status.TooFewSeats asked given) = false
+
+-- an answer that any call that reads files may have: one of these, or a failed read
 abbrev pub yields : Status → Bool
-yields status.NoMemory = true
 yields (status.ReadFault kind) = true
+yields status.NoMemory = true
 yields status.WriteFault = true
 yields status.Ok = false
 yields status.Unbuilt = false
+yields (status.Usage place) = false
 yields (status.BadFile kind line what) = false
 yields (status.ChildFault seat) = false
 yields (status.TooFewSeats asked given) = false
 
--- words or files that are refused give Unbuilt, where nothing else comes in between
-pub record RefusesUnread (call : Call) (result : Status) : Type 0 where
-  pub refuses : (contents : List ℕ → Option (List ℕ)) → call.contents ≡ Some contents
-      → problem_of call.words contents ≡ Refused → (result ≡ status.Unbuilt) ⊎ IsTrue (yields result)
+-- a wrong key word gives Usage, whatever the files are, where nothing else comes in between
+pub record RefusesMisused (call : Call) (result : Status) : Type 0 where
+  pub refuses : (place : ℕ) → IsMisused call place → (result ≡ status.Usage place) ⊎ IsTrue (is_unsaid result)
 
 -- a file with a fault gives BadFile, where nothing else comes in between
 pub record RefusesFaulty (call : Call) (result : Status) : Type 0 where
   pub refuses : (contents : List ℕ → Option (List ℕ)) (kind : FileKind) (name : List ℕ) (line : ℕ) (what : What) → call.contents ≡ Some contents
       → problem_of call.words contents ≡ Bad kind name line what → (result ≡ status.BadFile kind line what) ⊎ IsTrue (yields result)
 
--- a problem without a seat gives TooFewSeats, where nothing else comes in between
+-- a problem that asks for more seats than there are gives TooFewSeats, where nothing else comes in between
 pub record RefusesUnseated (call : Call) (result : Status) : Type 0 where
   pub refuses : (contents : List ℕ → Option (List ℕ)) (problem : Problem) → call.contents ≡ Some contents
-      → problem_of call.words contents ≡ Reads problem → call.seats < 1
-      → (result ≡ status.TooFewSeats 1 call.seats) ⊎ IsTrue (yields result)
+      → problem_of call.words contents ≡ Reads problem → call.seats < problem.rules.workers
+      → (result ≡ status.TooFewSeats problem.rules.workers call.seats) ⊎ IsTrue (yields result)
+
+-- with enough seats FocusedILS gives Unbuilt, where nothing else comes in between
+pub record RefusesFocused (call : Call) (result : Status) : Type 0 where
+  pub refuses : (contents : List ℕ → Option (List ℕ)) (problem : Problem) → call.contents ≡ Some contents
+      → problem_of call.words contents ≡ Reads problem → IsSeated call problem → problem.approach ≡ Focused
+      → (result ≡ status.Unbuilt) ⊎ IsTrue (yields result)

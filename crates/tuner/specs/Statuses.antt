@@ -5,6 +5,7 @@ use Rattle.tuner.specs.declared.status.Status.TheVariants as status
 
 abbrev pub code_of : Status → ℕ
 code_of status.Ok = 0
+code_of (status.Usage place) = 2
 code_of (status.BadFile kind line what) = 3
 code_of (status.ReadFault kind) = 4
 code_of status.WriteFault = 5

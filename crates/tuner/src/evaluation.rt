@@ -58,6 +58,7 @@ fn cost_at<R: Wait, S: Spawner>(
     requires idle { IsTrue (S.idle spawner.old) }
     requires belongs { Belongs problem.now.rules.space.params config.now }
     requires first { 1 ≤ place }
+    requires last { place ≤ problem.now.rules.max_runs }
     ensures idle { IsTrue (S.idle spawner.new) }
     ensures counts { S.faults spawner.old ≤ S.faults spawner.new }
     ensures sum { IfSum result (λ x. (outcome : Key → Outcome) → S.truth ≡ Some outcome → cost_of problem.now.rules.limits (table_of (Some outcome) problem.now config.now place) ≡ Some x) }

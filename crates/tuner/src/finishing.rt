@@ -3,11 +3,11 @@ ghost use Rattle.std.specs.Prelude.{◌≡◌, ◌≤◌, IsTrue};
 ghost use Rattle.objective.specs.Costs.{Table};
 ghost use Rattle.outside.specs.Counts.{Rose};
 ghost use Rattle.param_space.specs.Space.{Belongs};
-ghost use Rattle.uncapped.specs.Uncapped.{Basic, uncapped};
+ghost use Rattle.uncapped.specs.Uncapped.{uncapped};
 ghost use Rattle.ils_face.specs.declared.rules.Rules.{Rules};
 ghost use Rattle.ils_face.specs.Setups.{setup_of};
 ghost use Rattle.ils_face.specs.Shown.{sums_under};
-ghost use Rattle.tuner.specs.Problem.{table_of};
+ghost use Rattle.tuner.specs.Problem.{procedure_of, table_of};
 ghost use Rattle.tuner.specs.Lines.{all_lines as all_texts, child_fault_line as child_fault_text};
 ghost use Rattle.tuner.specs.Promises.{taking_by, Reported, RunEnding};
 ghost use Rattle.tuner.specs.Searched.{IsSound};
@@ -66,7 +66,7 @@ pub(crate) fn run_search<R: Wait, P: Search, O: Sink, S: Spawner>(
     spawner: &mut S,
 ) -> Status
     requires idle { IsTrue (S.idle spawner.old) }
-    requires procedure { (rules : Rules) (T : Table) → P.plain rules T ≡ uncapped Basic (setup_of rules) (sums_under rules T) }
+    requires procedure { (rules : Rules) (T : Table) → P.plain rules T ≡ uncapped (procedure_of problem.now.approach) (setup_of rules) (sums_under rules T) }
     ensures idle { IsTrue (S.idle spawner.new) }
     ensures counts { S.faults spawner.old ≤ S.faults spawner.new }
     ensures ending { RunEnding (record { truth = S.truth; tables = table_of S.truth; faults = S.faults spawner.old; faults' = S.faults spawner.new; failed_run = S.failed_run spawner.new }) problem.now (taking_by O.taken O.faults O.empties out.old out.new) result }

@@ -3,7 +3,7 @@ ghost use Rattle.std.specs.Prelude.{◌≡◌, ◌++◌, ◌∷◌, [], All, IfO
 ghost use Rattle.std.specs.List.{flat_map};
 ghost use Rattle.param_space.specs.Space.{Belongs};
 ghost use Rattle.param_space.specs.Configurations.{IsConfig};
-ghost use Rattle.tuner.specs.Lines.{entry_line as entry_text, entry_lines as entry_texts, all_lines as all_texts, bad_file_line as bad_file_text, read_fault_line as read_fault_text, seats_line as seats_text, child_fault_line as child_fault_text};
+ghost use Rattle.tuner.specs.Lines.{entry_line as entry_text, entry_lines as entry_texts, all_lines as all_texts, bad_file_line as bad_file_text, read_fault_line as read_fault_text, usage_line as usage_text, seats_line as seats_text, child_fault_line as child_fault_text};
 
 use crate::faults::what_name;
 use crate::status::What;
@@ -77,6 +77,13 @@ pub(crate) fn all_lines<P: Search>(
     )?;
     lines.push(end_line(alloc, last.as_slice())?)?;
     Ok(lines)
+}
+
+/// The line of a wrong word: its place, from 0.
+pub(crate) fn usage_line(alloc: Global, place: u32) -> Result<String, Memory>
+    ensures { IfOk result (λ line. string_bytes line ≡ usage_text place) }
+{
+    Ok(format!(in alloc; "usage {place}\n")?)
 }
 
 /// The line of a failed read.

@@ -5,31 +5,34 @@ ghost use Rattle.param_space.specs.Settings.{active_values};
 ghost use Rattle.tuner.specs.Problem.{run_at as run_of, key_at as key_of, setting_from};
 
 use ils_face::Rules;
+use instance_pairs::Pairs;
 use objective::Memory;
 use outside::{Key, Program, Run, Setting};
 use param_space::{Config, Space};
 use plain_text::{Items, Text};
+use scenario_files::Approach;
 use std::alloc::Global;
 use std::marker::Model;
 
-/// A program, the rules of the search for its settings, and the instances. Its type keeps
-/// that there are 1 to 100,000 instances, and the rules' type that their numbers are in range.
+/// A program, how its settings are compared, the rules of their search, and the pairs that
+/// they are run on. Its type keeps that rules and pairs have the same number of runs.
 #[derive(Drop)]
 pub struct Problem {
     pub(crate) program: Program,
+    pub(crate) approach: Approach,
     pub(crate) rules: Rules,
-    pub(crate) instances: Items<Text>,
+    pub(crate) pairs: Pairs,
 }
 
 impl Model for Problem {
+    ghost use Rattle.std.specs.Prelude.{◌≡◌};
     ghost use Rattle.tuner.specs.Problem as problem;
-    ghost use Rattle.tuner.specs.InRange.{AreInstances};
 
     ghost Value = { problem.Problem };
 
-    ghost view = { λ p. record { program = p.program; rules = p.rules; instances = p.instances } };
+    ghost view = { λ p. record { program = p.program; approach = p.approach; rules = p.rules; pairs = p.pairs } };
 
-    ghost invariant = { λ p. AreInstances p.instances };
+    ghost invariant = { λ p. p.rules.max_runs ≡ p.pairs.max_runs };
 }
 
 /// The settings of a configuration: each active parameter's name with its value.
@@ -52,20 +55,35 @@ fn settings_of(alloc: Global, space: &Space, config: &Config) -> Result<Vec<Sett
 }
 
 impl Problem {
-    /// What a configuration's run at a place is of: the instance whose turn it is, and the
-    /// place as the seed.
+    /// How configurations are compared.
+    pub(crate) fn approach(&self) -> Approach
+        ensures { result ≡ self.now.approach }
+    {
+        self.approach
+    }
+
+    /// The seats that are asked for: 1 to 64.
+    pub(crate) fn workers(&self) -> u32
+        ensures value { result ≡ self.now.rules.workers }
+        ensures some { 1 ≤ result }
+        ensures few { result ≤ 64 }
+    {
+        self.rules.workers
+    }
+
+    /// What a configuration's run at a place is of: the pair of the place, and its settings.
     fn key_at(&self, alloc: Global, config: &Config, place: u32) -> Result<Key, Memory>
         requires belongs { Belongs self.now.rules.space.params config.now }
         requires first { 1 ≤ place }
+        requires last { place ≤ self.now.rules.max_runs }
         ensures { IfOk result (λ k. k ≡ key_of self.now config.now place) }
     {
-        let instances = self.instances.as_slice();
-        let turn = (place - 1) as usize % instances.len();
         let settings = settings_of(alloc, &self.rules.space, config)?;
+        let pair = self.pairs.pair(place);
         Ok(Key {
-            instance: instances[turn].copy()?,
-            specifics: Text::of(alloc, "0")?,
-            seed: place,
+            instance: Text::of(alloc, pair.instance)?,
+            specifics: Text::of(alloc, pair.specifics)?,
+            seed: pair.seed,
             settings: Items::new(settings),
         })
     }
@@ -74,6 +92,7 @@ impl Problem {
     pub(crate) fn run_at(&self, alloc: Global, config: &Config, place: u32) -> Result<Run, Memory>
         requires belongs { Belongs self.now.rules.space.params config.now }
         requires first { 1 ≤ place }
+        requires last { place ≤ self.now.rules.max_runs }
         ensures { IfOk result (λ r. r ≡ run_of self.now config.now place) }
     {
         Ok(Run {

@@ -1,8 +1,4 @@
-//! The readers of words and files in their plainest form.
-pub(crate) mod counts;
-pub(crate) mod instances;
+//! Words and files as a problem.
+pub(crate) mod files;
 pub(crate) mod problems;
 pub(crate) mod refusal;
-pub(crate) mod scenario;
-pub(crate) mod texts;
-pub(crate) mod words;

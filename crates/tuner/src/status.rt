@@ -2,7 +2,9 @@
 ghost use Rattle.std.specs.Prelude.{◌≡◌};
 ghost use Rattle.tuner.specs.Statuses.{code_of};
 
+use instance_pairs::InstanceWhat;
 use param_files::ParamWhat;
+use scenario_files::ScenarioWhat;
 
 /// Which of the files a fault is in.
 #[derive(Clone, Copy, Debug, PartialEq, Eq)]
@@ -18,8 +20,12 @@ pub enum FileKind {
 /// Which rule of a file is broken.
 #[derive(Clone, Copy, Debug, PartialEq, Eq)]
 pub enum What {
+    /// A rule of the scenario file; `Missing` also where neither it nor the words give a key.
+    Scenario(ScenarioWhat),
     /// A rule of the parameter file.
     Params(ParamWhat),
+    /// A rule of the instance file.
+    Instances(InstanceWhat),
 }
 
 /// How a tuning ends.
@@ -27,7 +33,13 @@ pub enum What {
 pub enum Status {
     /// All comparisons that the budget allows were made.
     Ok,
-    /// A file that was read has no reading.
+    /// The words are no call.
+    Usage {
+        /// The place of the first wrong key word, from 0; the number of words where none is
+        /// wrong and none names the scenario file.
+        place: u32,
+    },
+    /// A file that was read has no reading, or a key that has no default is missing.
     BadFile {
         /// The file.
         kind: FileKind,
@@ -57,8 +69,7 @@ pub enum Status {
         /// The seats that there are.
         given: u32,
     },
-    /// The words, the scenario or instance file or a child's answer isn't of the form that
-    /// is built so far.
+    /// What is asked for isn't built so far: FocusedILS, or the end that a child asks for.
     Unbuilt,
 }
 
@@ -69,6 +80,7 @@ impl Status {
     {
         match self {
             Status::Ok => 0,
+            Status::Usage { .. } => 2,
             Status::BadFile { .. } => 3,
             Status::ReadFault { .. } => 4,
             Status::WriteFault => 5,

@@ -3,13 +3,13 @@ ghost use Rattle.std.specs.Prelude.{◌≡◌, ◌≤◌, ◌<◌, ◌⊎◌, �
 ghost use Rattle.objective.specs.declared.Outcome.{Outcome};
 ghost use Rattle.outside.specs.Counts.{Rose};
 ghost use Rattle.uncapped.specs.Procedure.{Finished};
-ghost use Rattle.tuner.specs.Problem.{Problem as Stated, problem_of, Reads, Refused, uncapped_run};
-ghost use Rattle.tuner.specs.Promises.{taking_by, call_by, Ending, HasCause, Headline, IsComplete, RefusesFaulty, RefusesUnread, RefusesUnseated, ReportsRefusal, Reported};
+ghost use Rattle.tuner.specs.Problem.{Problem as Stated, problem_of, Reads, uncapped_run};
+ghost use Rattle.tuner.specs.Promises.{taking_by, call_by, Ending, HasCause, Headline, IsComplete, RefusesFaulty, RefusesFocused, RefusesMisused, RefusesUnseated, ReportsMisuse, ReportsRefusal, Reported};
 ghost use Rattle.tuner.specs.Seats.{spawner_of, first_count, first_run};
 ghost use Rattle.tuner.specs.Lines.{seats_line as seats_text};
 
 use crate::finishing::run_search;
-use crate::lines::{bad_file_line, read_fault_line, seats_line};
+use crate::lines::{bad_file_line, read_fault_line, seats_line, usage_line};
 use crate::reading::problems::read_problem;
 use crate::reading::refusal::Refusal;
 use crate::saying::say;
@@ -21,15 +21,28 @@ use ils_frame::Ils;
 use objective::World;
 use outside::{Files, Sink, Spawner};
 use plain_text::Text;
+use scenario_files::{Approach, WordFault, read_words};
 use std::alloc::Global;
 use std::sync::Wait;
 
-/// Prints why words and files make no problem.
-fn refuse<O: Sink>(alloc: Global, refusal: Refusal, out: &mut O) -> Status
+/// Prints why words are no call.
+fn refuse_words<O: Sink>(alloc: Global, fault: WordFault, out: &mut O) -> Status
+    ensures { ReportsMisuse fault (taking_by O.taken O.faults O.empties out.old out.new) result }
+{
+    match fault {
+        WordFault::At { place } => match usage_line(alloc, place) {
+            Ok(line) => say(out, line.as_bytes(), Status::Usage { place }),
+            Err(_) => say(out, b"nomemory\n", Status::NoMemory),
+        },
+        WordFault::Memory => say(out, b"nomemory\n", Status::NoMemory),
+    }
+}
+
+/// Prints why files make no problem.
+fn refuse_files<O: Sink>(alloc: Global, refusal: Refusal, out: &mut O) -> Status
     ensures { ReportsRefusal refusal (taking_by O.taken O.faults O.empties out.old out.new) result }
 {
     match refusal {
-        Refusal::Unbuilt => say(out, b"unbuilt\n", Status::Unbuilt),
         Refusal::BadFile {
             kind,
             name,
@@ -47,23 +60,56 @@ fn refuse<O: Sink>(alloc: Global, refusal: Refusal, out: &mut O) -> Status
     }
 }
 
-/// Prints that there is no seat.
-fn refuse_seats<O: Sink>(alloc: Global, out: &mut O) -> Status
-    ensures { Reported (taking_by O.taken O.faults O.empties out.old out.new) result (Status.TooFewSeats 1 0) (seats_text 1 0) }
+/// Prints that there are fewer seats than are asked for.
+fn refuse_seats<O: Sink>(alloc: Global, asked: u32, given: u32, out: &mut O) -> Status
+    ensures { Reported (taking_by O.taken O.faults O.empties out.old out.new) result (Status.TooFewSeats asked given) (seats_text asked given) }
 {
-    match seats_line(alloc, 1, 0) {
-        Ok(line) => say(
-            out,
-            line.as_bytes(),
-            Status::TooFewSeats { asked: 1, given: 0 },
-        ),
+    match seats_line(alloc, asked, given) {
+        Ok(line) => say(out, line.as_bytes(), Status::TooFewSeats { asked, given }),
         Err(_) => say(out, b"nomemory\n", Status::NoMemory),
+    }
+}
+
+/// The call but for its log: its words and files are read, and the search is run on the first
+/// seat. It may wait.
+fn conduct<R: Wait, F: Files, O: Sink, S: Spawner>(
+    rt: &R,
+    alloc: Global,
+    words: &[Text],
+    files: &mut F,
+    out: &mut O,
+    seats: &mut [Seat<S>],
+) -> Status
+    requires { All (λ seat. IsTrue (S.idle (spawner_of seat))) seats.old }
+    ensures ending { Ending (call_by words.now F.contents F.faults files.old files.new S.truth ⟦<Truth<S> as World>⟧.outcome S.faults S.failed_run seats.old seats.new) (taking_by O.taken O.faults O.empties out.old out.new) result }
+    ensures idle { All (λ seat. IsTrue (S.idle (spawner_of seat))) seats.new }
+{
+    let given = match read_words(alloc, words) {
+        Ok(given) => given,
+        Err(fault) => return refuse_words(alloc, fault, out),
+    };
+    let problem = match read_problem(alloc, files, given) {
+        Ok(problem) => problem,
+        Err(refusal) => return refuse_files(alloc, refusal, out),
+    };
+    let workers = problem.workers();
+    if seats.len() < workers as usize {
+        return refuse_seats(alloc, workers, seats.len() as u32, out);
+    }
+    match problem.approach() {
+        Approach::Focused => say(out, b"unbuilt\n", Status::Unbuilt),
+        Approach::Basic => {
+            let seat = &mut seats[0];
+            seat.clear();
+            run_search::<R, Ils<Basic>, O, S>(rt, alloc, &problem, out, &mut seat.spawner)
+        }
     }
 }
 
 /// Tunes: reads the words and the files that they name, searches for the best settings by
 /// runs of the first seat, and prints each incumbent and the last line. It may wait.
 ///
+/// There have to be as many seats as the scenario has workers, though one is used so far.
 /// `out` gets the lines; `log` gets nothing yet. The status says how it ended, and each
 /// answer but `NoMemory` has its cause in a clause.
 pub fn tune<R: Wait, F: Files, O: Sink, S: Spawner + Send>(
@@ -80,11 +126,12 @@ pub fn tune<R: Wait, F: Files, O: Sink, S: Spawner + Send>(
     // With Ok the output took the lines of the uncapped procedure, and nothing else.
     ensures headline { result ≡ Status.Ok → Headline (call_by words.now F.contents F.faults files.old files.new S.truth ⟦<Truth<S> as World>⟧.outcome S.faults S.failed_run seats.old seats.new) (taking_by O.taken O.faults O.empties out.old out.new) }
 
-    // Each other answer but NoMemory has its cause.
+    // Each other answer but NoMemory has its cause, and each refusal comes where its cause is.
     ensures cause { HasCause (call_by words.now F.contents F.faults files.old files.new S.truth ⟦<Truth<S> as World>⟧.outcome S.faults S.failed_run seats.old seats.new) (taking_by O.taken O.faults O.empties out.old out.new) result }
-    ensures unbuilt { RefusesUnread (call_by words.now F.contents F.faults files.old files.new S.truth ⟦<Truth<S> as World>⟧.outcome S.faults S.failed_run seats.old seats.new) result }
+    ensures usage { RefusesMisused (call_by words.now F.contents F.faults files.old files.new S.truth ⟦<Truth<S> as World>⟧.outcome S.faults S.failed_run seats.old seats.new) result }
     ensures bad_file { RefusesFaulty (call_by words.now F.contents F.faults files.old files.new S.truth ⟦<Truth<S> as World>⟧.outcome S.faults S.failed_run seats.old seats.new) result }
     ensures too_few { RefusesUnseated (call_by words.now F.contents F.faults files.old files.new S.truth ⟦<Truth<S> as World>⟧.outcome S.faults S.failed_run seats.old seats.new) result }
+    ensures unbuilt { RefusesFocused (call_by words.now F.contents F.faults files.old files.new S.truth ⟦<Truth<S> as World>⟧.outcome S.faults S.failed_run seats.old seats.new) result }
 
     // Where everything works the answer is Ok, or NoMemory.
     ensures complete { IsComplete (call_by words.now F.contents F.faults files.old files.new S.truth ⟦<Truth<S> as World>⟧.outcome S.faults S.failed_run seats.old seats.new) (taking_by O.taken O.faults O.empties out.old out.new) result }
@@ -95,14 +142,5 @@ pub fn tune<R: Wait, F: Files, O: Sink, S: Spawner + Send>(
     ensures idle { All (λ seat. IsTrue (S.idle (spawner_of seat))) seats.new }
 {
     let _ = &log;
-    let problem = match read_problem(alloc, words, files) {
-        Ok(problem) => problem,
-        Err(refusal) => return refuse(alloc, refusal, out),
-    };
-    if seats.is_empty() {
-        return refuse_seats(alloc, out);
-    }
-    let seat = &mut seats[0];
-    seat.clear();
-    run_search::<R, Ils<Basic>, O, S>(rt, alloc, &problem, out, &mut seat.spawner)
+    conduct(rt, alloc, words, files, out, seats)
 }

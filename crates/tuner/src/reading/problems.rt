@@ -1,110 +1,132 @@
-//! Words and files as a problem.
+//! The problem that words and files state.
 ghost use Rattle.std.specs.Prelude.{◌≡◌, ◌≤◌, length, IfOk, IfErr, IfSome};
 ghost use Rattle.outside.specs.Counts.{Rose};
-ghost use Rattle.tuner.specs.InRange.{AreInRange};
-ghost use Rattle.tuner.specs.Problem.{file_as, space_in, problem_of, rules_from as stated_rules, Reads};
-ghost use Rattle.tuner.specs.Reading.{instances_of};
-ghost use Rattle.tuner.specs.Refusals.{IsCause, IsFile, IsNext};
-ghost use Rattle.tuner.specs.Views.{scenario_seen};
+ghost use Rattle.scenario_files.specs.Limits.{AreWordsWithin, IsWithin};
+ghost use Rattle.tuner.specs.Problem.{factor_of as stated_factor, pairs_from as stated_pairs, problem_by, problem_in, problem_from as stated_problem, rules_from as stated_rules, Reads};
+ghost use Rattle.tuner.specs.Refusals.{IsCause, IsNext, IsNextIn};
 
 use crate::problem::Problem;
-use crate::reading::instances::read_instances;
+use crate::reading::files::{read_instance_file, read_scenario_file, read_space};
 use crate::reading::refusal::Refusal;
-use crate::reading::scenario::{Scenario, read_scenario};
-use crate::reading::texts::{read_bytes, read_text};
-use crate::reading::words::read_options;
-use crate::status::{FileKind, What};
 use ils_face::Rules;
-use objective::{Factor, Limits, Micros};
+use instance_pairs::{Instance, Pairs};
+use objective::{Factor, Limits, Memory, Micros};
 use outside::{Files, read_program};
-use param_files::{ParamFault, read_params};
 use param_space::Space;
-use plain_text::{Items, Text};
+use scenario_files::{Overall, Scenario, Words};
 use std::alloc::Global;
 
-/// Reads the parameter file.
-fn read_space<F: Files>(alloc: Global, files: &mut F, name: &str) -> Result<Space, Refusal>
-    ensures same { F.contents files.new ≡ F.contents files.old }
-    ensures counts { F.faults files.old ≤ F.faults files.new }
-    ensures read { IfOk result (λ s. IfSome (F.contents files.old) (λ contents. space_in contents name.now ≡ Reads s)) }
-    ensures refused { IfErr result (λ e. IsCause e (F.contents files.old) (λ contents. space_in contents name.now) (IsFile FileKind.Params name.now) (F.faults files.old) (F.faults files.new)) }
+/// How many cutoffs a run without a solution costs.
+fn factor_of(overall: Overall) -> Factor
+    ensures { result ≡ stated_factor overall }
 {
-    let bytes = read_bytes(alloc, files, FileKind::Params, name)?;
-    match read_params(alloc, bytes.as_slice()) {
-        Ok(space) => Ok(space),
-        Err(ParamFault::At { line, what }) => Err(Refusal::BadFile {
-            kind: FileKind::Params,
-            name: Text::of(alloc, name)?,
-            line,
-            what: What::Params(what),
-        }),
-        Err(ParamFault::Memory) => Err(Refusal::Memory),
+    match overall {
+        Overall::Mean => Factor::One,
+        Overall::Mean10 => Factor::Ten,
+        Overall::Mean1000 => Factor::Thousand,
     }
 }
 
-/// Reads the instance file.
-fn read_names<F: Files>(alloc: Global, files: &mut F, name: &str) -> Result<Vec<Text>, Refusal>
-    ensures same { F.contents files.new ≡ F.contents files.old }
-    ensures counts { F.faults files.old ≤ F.faults files.new }
-    ensures read { IfOk result (λ v. IfSome (F.contents files.old) (λ contents. file_as FileKind.Instances instances_of contents name.now ≡ Reads v.items)) }
-    ensures in_range { IfOk result (λ v. (1 ≤ length v.items) × (length v.items ≤ 100000)) }
-    ensures refused { IfErr result (λ e. IsCause e (F.contents files.old) (λ contents. file_as FileKind.Instances instances_of contents name.now) (IsFile FileKind.Instances name.now) (F.faults files.old) (F.faults files.new)) }
-{
-    let text = read_text(alloc, files, FileKind::Instances, name)?;
-    match read_instances(alloc, text.as_str())? {
-        Some(names) => Ok(names),
-        None => Err(Refusal::Unbuilt),
-    }
-}
-
-/// The rules of the search for a scenario's settings.
-fn rules_from(budget: u64, scenario: &Scenario<'_>, space: Space) -> Rules
-    requires budget { budget ≤ 100000 }
-    requires numbers { AreInRange (scenario_seen scenario.now) }
-    ensures { result ≡ stated_rules budget (scenario_seen scenario.now) space }
+/// The rules of the search of a scenario, with so many runs of a configuration at most.
+fn rules_from(scenario: &Scenario, space: Space, max_runs: u32) -> Rules
+    requires limits { IsWithin scenario.now }
+    requires one { 1 ≤ max_runs }
+    requires most { max_runs ≤ 10_000 }
+    ensures { result ≡ stated_rules scenario.now space max_runs }
 {
     Rules {
         space,
-        seed: 0,
-        max_runs: scenario.runs as u32,
-        budget: budget as u32,
-        initial: scenario.initial as u32,
-        strength: scenario.strength as u32,
-        restart: scenario.restart as u16,
+        seed: scenario.num_run,
+        max_runs,
+        budget: scenario.max_comparisons,
+        initial: scenario.r,
+        strength: scenario.s,
+        restart: scenario.p_restart,
         limits: Limits {
-            cutoff: Micros(scenario.cutoff * 1_000_000),
-            factor: Factor::One,
-            floor: Micros(1),
+            cutoff: scenario.cutoff_time,
+            factor: factor_of(scenario.overall_obj),
+            floor: Micros(scenario.cap_floor.0.min(scenario.cutoff_time.0)),
         },
-        workers: 1,
+        workers: scenario.workers,
     }
 }
 
-/// The problem that the words and the files that they name state, or the first refusal in
-/// the order of their reading: the words, the scenario file, the parameter file, the
-/// instance file.
-pub(crate) fn read_problem<F: Files>(
+/// The pairs of a scenario over these instances.
+fn pairs_from(alloc: Global, scenario: &Scenario, instances: Vec<Instance>) -> Result<Pairs, Memory>
+    requires limits { IsWithin scenario.now }
+    requires some { 1 ≤ length instances.items }
+    requires few { length instances.items ≤ 100_000 }
+    ensures { IfOk result (λ p. p ≡ stated_pairs scenario.now instances.items) }
+{
+    Pairs::new(
+        alloc,
+        instances,
+        scenario.num_run,
+        scenario.deterministic,
+        scenario.pair_order,
+        scenario.n,
+    )
+}
+
+/// The problem of a scenario with its space and instances.
+fn problem_from(
     alloc: Global,
-    words: &[Text],
+    scenario: &Scenario,
+    space: Space,
+    instances: Vec<Instance>,
+) -> Result<Problem, Memory>
+    requires limits { IsWithin scenario.now }
+    requires some { 1 ≤ length instances.items }
+    requires few { length instances.items ≤ 100_000 }
+    ensures { IfOk result (λ p. p ≡ stated_problem scenario.now space instances.items) }
+{
+    let pairs = pairs_from(alloc, scenario, instances)?;
+    let program = read_program(
+        alloc,
+        scenario.algo.as_str(),
+        scenario.execdir.as_str(),
+        scenario.cutoff_length,
+    )?;
+    let max_runs = pairs.max_runs();
+    Ok(Problem {
+        program,
+        approach: scenario.approach,
+        rules: rules_from(scenario, space, max_runs),
+        pairs,
+    })
+}
+
+/// The problem of a scenario and of the files that it names, or the first refusal: of the
+/// parameter file, then of the instance file.
+fn read_named<F: Files>(
+    alloc: Global,
     files: &mut F,
+    scenario: &Scenario,
 ) -> Result<Problem, Refusal>
+    requires { IsWithin scenario.now }
     ensures same { F.contents files.new ≡ F.contents files.old }
     ensures counts { F.faults files.old ≤ F.faults files.new }
-    ensures read { IfOk result (λ p. IfSome (F.contents files.old) (λ contents. problem_of words.now contents ≡ Reads p)) }
-    ensures refused { IfErr result (λ e. IsCause e (F.contents files.old) (problem_of words.now) (IsNext words.now (F.contents files.old)) (F.faults files.old) (F.faults files.new)) }
+    ensures read { IfOk result (λ p. IfSome (F.contents files.old) (λ contents. problem_in contents scenario.now ≡ Reads p)) }
+    ensures refused { IfErr result (λ e. IsCause e (F.contents files.old) (λ contents. problem_in contents scenario.now) (IsNextIn scenario.now (F.contents files.old)) (F.faults files.old) (F.faults files.new)) }
 {
-    let Some(options) = read_options(words) else {
-        return Err(Refusal::Unbuilt);
-    };
-    let text = read_text(alloc, files, FileKind::Scenario, options.file)?;
-    let Some(scenario) = read_scenario(text.as_str()) else {
-        return Err(Refusal::Unbuilt);
-    };
-    let space = read_space(alloc, files, scenario.paramfile)?;
-    let instances = read_names(alloc, files, scenario.instance_file)?;
-    Ok(Problem {
-        program: read_program(alloc, scenario.algo, ".", 2_147_483_647)?,
-        rules: rules_from(options.budget, &scenario, space),
-        instances: Items::new(instances),
-    })
+    let space = read_space(alloc, files, scenario.paramfile.as_str())?;
+    let instances = read_instance_file(alloc, files, scenario.instance_file.as_str())?;
+    Ok(problem_from(alloc, scenario, space, instances)?)
+}
+
+/// The problem that words and the files that they name state, or the first refusal: of the
+/// scenario file, then of the files that it names.
+pub(crate) fn read_problem<F: Files>(
+    alloc: Global,
+    files: &mut F,
+    words: Words,
+) -> Result<Problem, Refusal>
+    requires { AreWordsWithin words }
+    ensures same { F.contents files.new ≡ F.contents files.old }
+    ensures counts { F.faults files.old ≤ F.faults files.new }
+    ensures read { IfOk result (λ p. IfSome (F.contents files.old) (λ contents. problem_by contents words ≡ Reads p)) }
+    ensures refused { IfErr result (λ e. IsCause e (F.contents files.old) (λ contents. problem_by contents words) (IsNext words (F.contents files.old)) (F.faults files.old) (F.faults files.new)) }
+{
+    let scenario = read_scenario_file(alloc, files, words)?;
+    read_named(alloc, files, &scenario)
 }

@@ -1,4 +1,4 @@
-//! Why words and files make no problem.
+//! Why files make no problem.
 ghost use Rattle.std.specs.Prelude.{◌≡◌};
 ghost use Rattle.tuner.specs.declared.reading.refusal.Refusal.TheVariants.{Memory as NoMemory};
 
@@ -6,11 +6,9 @@ use crate::status::{FileKind, What};
 use objective::Memory;
 use plain_text::Text;
 
-/// Why words and files make no problem.
+/// Why files make no problem.
 #[derive(Drop)]
 pub(crate) enum Refusal {
-    /// The words or a file aren't of the form that is built so far.
-    Unbuilt,
     /// A file has no reading.
     BadFile {
         /// Which file.
