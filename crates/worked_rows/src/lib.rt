@@ -7,6 +7,10 @@ mod calls;
 #[cfg(test)]
 mod drawn;
 #[cfg(test)]
+mod refusals;
+#[cfg(test)]
+mod scenarios;
+#[cfg(test)]
 mod searches;
 #[cfg(test)]
 mod spaces;

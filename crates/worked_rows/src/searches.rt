@@ -3,7 +3,7 @@
 ghost use Rattle.std.specs.Prelude.{◌≡◌, ◌≤◌};
 ghost use Rattle.worked_rows.specs.Rows.{has as has_value, by_pair as of_pair, solved as solved_after, against as outcome_against};
 
-use crate::tests::{SCENARIO, folder, quiet, tuned};
+use crate::tests::{SCENARIO, folder, quiet, spoken, tuned};
 use objective::{Memory, Micros, Outcome};
 use outside::{Key, MemorySink, Setting, Table, TableSeat};
 use std::alloc::Global;
@@ -112,6 +112,24 @@ impl Table for Free {
     }
 }
 
+/// a isn't solved on the first pair and costs a second on the second; b costs nine seconds on
+/// the first and isn't solved on the second.
+struct HalfSolved;
+
+impl Table for HalfSolved {
+    ghost use Rattle.worked_rows.specs.Rows.{half_solved};
+
+    ghost outcome = { half_solved };
+
+    fn outcome(key: &Key) -> Outcome {
+        if has(key.settings.as_slice(), "b") {
+            by_pair(key.seed, solved(9), Outcome::Unsolved)
+        } else {
+            by_pair(key.seed, Outcome::Unsolved, solved(1))
+        }
+    }
+}
+
 /// b asks for the end of the tuning on the first pair.
 struct AbortsFirst;
 
@@ -210,20 +228,8 @@ fn each_evaluation_is_run_in_full(rt: HostRuntime) -> Result<(), Fail> {
     ];
     assert_eq!(rt; starts.len(), 6);
     for ((seed, value), start) in runs.iter().zip(starts) {
-        let wanted = [
-            "w",
-            "one",
-            "0",
-            "10.000000",
-            "2147483647",
-            *seed,
-            "-x",
-            *value,
-        ];
-        assert_eq!(rt; start.as_slice().len(), 8);
-        for (word, text) in wanted.iter().zip(start.as_slice()) {
-            assert_eq!(rt; text.as_str(), *word);
-        }
+        let wanted = format!(in alloc; "w one 0 10.000000 2147483647 {seed} -x {value}")?;
+        assert_eq!(rt; spoken(alloc, start.as_slice())?.as_str(), wanted.as_str());
     }
     Ok(())
 }
@@ -238,21 +244,33 @@ fn an_abort_in_a_comparison_ends_the_search(rt: HostRuntime) -> Result<(), Fail>
 }
 
 #[test]
-fn numbers_of_the_search_have_their_forms(rt: HostRuntime) -> Result<(), Fail> {
+fn a_pair_that_is_not_solved_costs_ten_cutoffs(rt: HostRuntime) -> Result<(), Fail> {
+    let alloc = rt.alloc();
+    let scenario = format!(in alloc; "{SCENARIO}overall_obj = mean10\n")?;
+    let (status, out, _) = searched::<_, HalfSolved>(&rt, alloc, scenario.as_str(), "1")?;
+    assert_eq!(rt; status, Status::Ok);
+    assert_eq!(rt;
+        out.bytes(),
+        b"0 2 101.000000 x=a\nend 1 2 101.000000 x=a\n".as_slice()
+    );
+    Ok(())
+}
+
+#[test]
+fn numbers_of_the_search_have_their_limits(rt: HostRuntime) -> Result<(), Fail> {
     let alloc = rt.alloc();
     for (numbers, budget, code) in [
         ("r = 1000\ns = 100\np_restart = 0.9999\n", "0", 0),
-        ("r = 0\ns = 1\np_restart = 0.0000\n", "00", 0),
-        ("r = 1001\ns = 1\np_restart = 0\n", "0", 10),
-        ("r = 0\ns = 0\np_restart = 0\n", "0", 10),
-        ("r = 0\ns = 101\np_restart = 0\n", "0", 10),
-        ("r = 0\ns = 1\np_restart = 0.01\n", "0", 10),
-        ("r = 0\ns = 1\np_restart = 0.00100\n", "0", 10),
-        ("r = 0\ns = 1\np_restart = 0.1e-1\n", "0", 10),
-        ("r = 0\ns = 1\np_restart = 1\n", "0", 10),
-        ("r = 0\ns = 1\np_restart = 0\n", "100001", 10),
-        ("r = 0\ns = 1\np_restart = 0\n", "-1", 10),
-        ("r = 0\ns = 1\np_restart = 0\n", "", 10),
+        ("r = 0\ns = 1\np_restart = 1\n", "00", 0),
+        ("r = 0\ns = 1\np_restart = 0.1e-1\n", "0", 0),
+        ("r = 1001\ns = 1\np_restart = 0\n", "0", 3),
+        ("r = 0\ns = 0\np_restart = 0\n", "0", 3),
+        ("r = 0\ns = 101\np_restart = 0\n", "0", 3),
+        ("r = 0\ns = 1\np_restart = 0.00005\n", "0", 3),
+        ("r = 0\ns = 1\np_restart = 1.0001\n", "0", 3),
+        ("r = 0\ns = 1\np_restart = 0\n", "100001", 2),
+        ("r = 0\ns = 1\np_restart = 0\n", "-1", 2),
+        ("r = 0\ns = 1\np_restart = 0\n", "", 2),
     ] {
         let scenario = format!(in alloc; "{HEAD}{numbers}pair_order = file\n")?;
         let (status, _, _) = searched::<_, Better>(&rt, alloc, scenario.as_str(), budget)?;

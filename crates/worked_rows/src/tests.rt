@@ -116,6 +116,18 @@ pub(crate) fn tuned<R: Wait, T: Table + Send>(
     Ok((status, out))
 }
 
+/// The words of a start, parted by spaces.
+pub(crate) fn spoken(alloc: Global, start: &[Text]) -> Result<String, Memory> {
+    let mut line = String::new(alloc);
+    for word in start {
+        if !line.is_empty() {
+            line.push(' ')?;
+        }
+        line.push_str(word.as_str())?;
+    }
+    Ok(line)
+}
+
 #[test]
 fn default_settings_print_one_entry(rt: HostRuntime) -> Result<(), Fail> {
     let alloc = rt.alloc();
@@ -139,16 +151,13 @@ fn default_settings_print_one_entry(rt: HostRuntime) -> Result<(), Fail> {
     );
     assert!(rt; log.bytes().is_empty());
     let wanted = [
-        ["w", "one", "0", "10.000000", "2147483647", "1", "-x", "a"],
-        ["w", "one", "0", "10.000000", "2147483647", "2", "-x", "a"],
+        "w one 0 10.000000 2147483647 1 -x a",
+        "w one 0 10.000000 2147483647 2 -x a",
     ];
     let starts = seats[0].spawner().starts();
     assert_eq!(rt; starts.len(), 2);
-    for (start, wanted) in starts.iter().zip(&wanted) {
-        assert_eq!(rt; start.as_slice().len(), wanted.len());
-        for (word, wanted) in start.as_slice().iter().zip(wanted) {
-            assert_eq!(rt; word.as_str(), *wanted);
-        }
+    for (start, wanted) in starts.iter().zip(wanted) {
+        assert_eq!(rt; spoken(alloc, start.as_slice())?.as_str(), wanted);
     }
     Ok(())
 }
@@ -206,32 +215,7 @@ fn writes_that_fail_end_the_call(rt: HostRuntime) -> Result<(), Fail> {
 }
 
 #[test]
-fn files_that_fail_and_files_of_another_form(rt: HostRuntime) -> Result<(), Fail> {
-    let alloc = rt.alloc();
-    // A file with other contents, the read that fails, and the line and the status that follow.
-    for (name, contents, failing, wanted, code) in [
-        ("other", "", 1, "readfault s\n", 4),
-        ("other", "", 2, "readfault p\n", 4),
-        ("s", "", 0, "unbuilt\n", 10),
-        ("s", "algo = w\nspeed = 3\n", 0, "unbuilt\n", 10),
-        ("p", "", 0, "badfile p 0 NoParameters\n", 3),
-        ("p", "x {a, b} [c]\n", 0, "badfile p 1 BadDefault\n", 3),
-        ("i", "", 0, "unbuilt\n", 10),
-        ("i", "one two\n", 0, "unbuilt\n", 10),
-    ] {
-        let mut files = folder(alloc)?;
-        files.put(name, contents.as_bytes())?;
-        files.fail_at(failing)?;
-        let mut seats = [Seat::new(TableSeat::<ThreeAndFour>::new(alloc, quiet(alloc)?)?)];
-        let (status, out) = tuned(&rt, alloc, &WORDS, &mut files, &mut seats)?;
-        assert_eq!(rt; status.code(), code, "{name}: {contents}");
-        assert_eq!(rt; out.bytes(), wanted.as_bytes(), "{name}: {contents}");
-    }
-    Ok(())
-}
-
-#[test]
-fn other_words_no_seat_and_an_abort(rt: HostRuntime) -> Result<(), Fail> {
+fn no_seat_an_abort_and_unsolved_pairs(rt: HostRuntime) -> Result<(), Fail> {
     let alloc = rt.alloc();
     let (mut files, words) = (folder(alloc)?, texts(alloc, &WORDS)?);
     let (mut out, mut log) = (MemorySink::new(alloc), MemorySink::new(alloc));
@@ -259,9 +243,7 @@ fn other_words_no_seat_and_an_abort(rt: HostRuntime) -> Result<(), Fail> {
         &mut seats,
     );
     assert_eq!(rt; status, Status::Unbuilt);
-    let status = tune(&rt, alloc, &[], &mut files, &mut out, &mut log, &mut seats);
-    assert_eq!(rt; status, Status::Unbuilt);
-    assert_eq!(rt; out.bytes(), b"unbuilt\nunbuilt\n".as_slice());
+    assert_eq!(rt; out.bytes(), b"unbuilt\n".as_slice());
     let mut out = MemorySink::new(alloc);
     let mut seats = [Seat::new(TableSeat::<Unlucky>::new(alloc, quiet(alloc)?)?)];
     let status = tune(

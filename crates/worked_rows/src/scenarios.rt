@@ -1,0 +1,163 @@
+//! Which pairs a scenario's words and files ask for, and a usual scenario.
+use crate::refusals::One;
+use crate::tests::{folder, quiet, spoken, tuned};
+use outside::{MemoryFiles, TableSeat};
+use std::test::Fail;
+use tuner::{Seat, Status};
+
+/// The words for five pairs of each comparison.
+const FIVE: [&str; 6] = ["-scenariofile", "s", "-maxComparisons", "0", "-N", "5"];
+
+#[test]
+fn pairs_come_in_file_order(rt: HostRuntime) -> Result<(), Fail> {
+    let alloc = rt.alloc();
+    let mut files = folder(alloc)?;
+    files.put("i", b"one\ntwo  easy  one \n")?;
+    let mut seats = [Seat::new(TableSeat::<One>::new(alloc, quiet(alloc)?)?)];
+    let (status, _) = tuned(&rt, alloc, &FIVE, &mut files, &mut seats)?;
+    assert_eq!(rt; status, Status::Ok);
+    let wanted = [
+        "w one 0 10.000000 2147483647 1 -x a",
+        "w two easy  one 10.000000 2147483647 2 -x a",
+        "w one 0 10.000000 2147483647 3 -x a",
+        "w two easy  one 10.000000 2147483647 4 -x a",
+        "w one 0 10.000000 2147483647 5 -x a",
+    ];
+    let starts = seats[0].spawner().starts();
+    assert_eq!(rt; starts.len(), 5);
+    for (start, wanted) in starts.iter().zip(wanted) {
+        assert_eq!(rt; start.as_slice().len(), 8);
+        assert_eq!(rt; spoken(alloc, start.as_slice())?.as_str(), wanted);
+    }
+    Ok(())
+}
+
+// For the seed 42, stream 1 has the words 4df1ccf9 e5838752 58ed9e10 f3e37b51 e7664374
+// 6afde4a8. The first three in ascending order are the first, the third and the second, which
+// is the order of the instances; the next three modulo 2^31 are 73e37b51 67664374 6afde4a8,
+// the seeds of this round. Stream 3, of the second round, has 5f0a808f 3a3913fa 87716622
+// 2b8a4bc2 f5467bed: the second, the first, the third, and the seeds 2b8a4bc2 75467bed.
+#[test]
+fn pairs_come_shuffled(rt: HostRuntime) -> Result<(), Fail> {
+    let alloc = rt.alloc();
+    let words = [
+        "-scenariofile",
+        "s",
+        "-maxComparisons",
+        "0",
+        "-N",
+        "5",
+        "-numRun",
+        "42",
+        "-pair_order",
+        "shuffled",
+    ];
+    let mut files = folder(alloc)?;
+    files.put("i", b"one\ntwo\nthree")?;
+    let mut seats = [Seat::new(TableSeat::<One>::new(alloc, quiet(alloc)?)?)];
+    let (status, _) = tuned(&rt, alloc, &words, &mut files, &mut seats)?;
+    assert_eq!(rt; status, Status::Ok);
+    let wanted = [
+        "w one 0 10.000000 2147483647 1944288081 -x a",
+        "w three 0 10.000000 2147483647 1734755188 -x a",
+        "w two 0 10.000000 2147483647 1795024040 -x a",
+        "w two 0 10.000000 2147483647 730483650 -x a",
+        "w one 0 10.000000 2147483647 1967553517 -x a",
+    ];
+    let starts = seats[0].spawner().starts();
+    assert_eq!(rt; starts.len(), 5);
+    for (start, wanted) in starts.iter().zip(wanted) {
+        assert_eq!(rt; spoken(alloc, start.as_slice())?.as_str(), wanted);
+    }
+    Ok(())
+}
+
+#[test]
+fn deterministic_runs_take_each_instance_once(rt: HostRuntime) -> Result<(), Fail> {
+    let alloc = rt.alloc();
+    let words = [
+        "-scenariofile",
+        "s",
+        "-maxComparisons",
+        "0",
+        "-N",
+        "5",
+        "-deterministic",
+        "1",
+    ];
+    let mut files = folder(alloc)?;
+    files.put("i", b"one\ntwo\n")?;
+    let mut seats = [Seat::new(TableSeat::<One>::new(alloc, quiet(alloc)?)?)];
+    let (status, out) = tuned(&rt, alloc, &words, &mut files, &mut seats)?;
+    assert_eq!(rt; status, Status::Ok);
+    assert_eq!(rt;
+        out.bytes(),
+        b"0 2 2.000000 x=a\nend 0 2 2.000000 x=a\n".as_slice()
+    );
+    let wanted = [
+        "w one 0 10.000000 2147483647 0 -x a",
+        "w two 0 10.000000 2147483647 0 -x a",
+    ];
+    for (start, wanted) in seats[0].spawner().starts().iter().zip(wanted) {
+        assert_eq!(rt; spoken(alloc, start.as_slice())?.as_str(), wanted);
+    }
+    Ok(())
+}
+
+/// A scenario as the quickstart guide of ParamILS has it.
+const SAPS: &str = "algo = ruby saps_wrapper.rb
+execdir = example_saps
+deterministic = 0
+run_obj = runtime
+overall_obj = mean10
+cutoff_time = 5.0
+cutoff_length = max
+tunerTimeout = 300
+paramfile = p
+outdir = out
+instance_file = i
+test_instance_file = t
+";
+
+/// The parameters of the solver SAPS.
+const PARAMS: &str = "alpha {1.01, 1.066, 1.126, 1.189, 1.256, 1.326, 1.4} [1.189]
+ps {0, 0.033, 0.066, 0.1, 0.133, 0.166, 0.2} [0.1]
+rho {0, 0.17, 0.333, 0.5, 0.666, 0.83, 1} [0.5]
+wp {0, 0.01, 0.02, 0.03, 0.04, 0.05, 0.06} [0.03]
+";
+
+#[test]
+fn a_usual_scenario_is_read_as_it_stands(rt: HostRuntime) -> Result<(), Fail> {
+    let alloc = rt.alloc();
+    let words = [
+        "-scenariofile",
+        "saps",
+        "-maxComparisons",
+        "1",
+        "-numRun",
+        "1",
+        "-pair_order",
+        "file",
+        "-approach",
+        "basic",
+    ];
+    let mut files = MemoryFiles::new(alloc);
+    files.put("saps", SAPS.as_bytes())?;
+    files.put("p", PARAMS.as_bytes())?;
+    files.put("i", b"cnf/a.cnf\ncnf/b.cnf\n")?;
+    let mut seats = [Seat::new(TableSeat::<One>::new(alloc, quiet(alloc)?)?)];
+    let (status, out) = tuned(&rt, alloc, &words[..8], &mut files, &mut seats)?;
+    assert_eq!(rt; status, Status::Unbuilt); // FocusedILS by default
+    assert_eq!(rt; out.bytes(), b"unbuilt\n".as_slice());
+    let (status, out) = tuned(&rt, alloc, &words, &mut files, &mut seats)?;
+    assert_eq!(rt; status, Status::Ok);
+    assert_eq!(rt;
+        out.bytes(),
+        b"0 100 100.000000 alpha=1.189 ps=0.1 rho=0.5 wp=0.03\nend 1 100 100.000000 alpha=1.189 ps=0.1 rho=0.5 wp=0.03\n".as_slice()
+    );
+    assert_eq!(rt;
+        spoken(alloc, seats[0].spawner().starts()[0].as_slice())?.as_str(),
+        "ruby saps_wrapper.rb cnf/a.cnf 0 5.000000 2147483647 1 -alpha 1.189 -ps 0.1 -rho 0.5 -wp 0.03"
+    );
+    Ok(())
+}
