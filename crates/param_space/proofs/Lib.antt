@@ -1,3 +1,4 @@
+pub mod ActiveValues
 pub mod Names
 pub mod Texts
 pub mod Marking

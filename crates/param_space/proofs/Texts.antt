@@ -1,4 +1,4 @@
--- The text of settings, one setting after another.
+-- Settings and their text, one setting after another.
 use Rattle.std.proofs.Common.{◌≡◌, ◌<◌, ◌≤◌, ◌+◌, ◌==◌, ◌++◌, ◌∙◌, ℕ, Bool, true, false, cond, List, [], ◌∷◌, length, get_or, refl, sym, ap, arith, append_assoc}
 use Rattle.std.specs.Prelude.{codes}
 use Rattle.std.specs.List.{slice_index_or}
@@ -8,7 +8,7 @@ use Rattle.param_space.specs.declared.lists.Param.{Param}
 use Rattle.param_space.specs.Configurations.{is_active}
 use Rattle.param_space.specs.Space.{Lists, Belongs}
 use Rattle.param_space.specs.Settings.{named_values, at_places, active_values, setting_text, settings_text, with_setting}
-use Rattle.param_space.specs.ActiveValues.{named, values_until, passing_more, until_all}
+use Rattle.param_space.proofs.ActiveValues.{named, values_until, passing_more}
 use Rattle.param_space.specs.Belonging.{read_value_in_range}
 
 settings_text-more : (s : List ℕ × List ℕ) (ss : List (List ℕ × List ℕ)) (t : List ℕ × List ℕ)
@@ -30,19 +30,8 @@ with_one_more (t ∷ ts) s =
     let later : (length (settings_text (t ∷ ts)) == 0) ≡ false = (let some = some_text t ts in grind (arith, nat_tests, some)) in
     rw later (sym (settings_text-more t ts s))
 
--- what a loop reads at a place is the parameter's name and its value there
-read_setting : (params : List Param) (values : List ℕ) (i : ℕ) (p : Param) (texts : List (List ℕ)) (text name value : List ℕ)
-    → Belongs params values → i < length params → p ≡ get_or params i p → texts ≡ p.values → text ≡ get_or texts (get_or values i 0) text → name ≡ p.name → value ≡ text
-    → setting_text (name, value) ≡ setting_text (named (get_or params i p) (get_or values i 0))
-read_setting params values i p texts text name value h lt is e read f g =
-    let below = read_value_in_range params values i p texts h lt is e in
-    let same_texts : texts ≡ (get_or params i p).values = e ∙ ap (λ q. q.values) is in
-    let same_name : name ≡ (get_or params i p).name = f ∙ ap (λ q. q.name) is in
-    let same_value : value ≡ get_or (get_or params i p).values (get_or values i 0) [] = g ∙ get_or_read texts (get_or values i 0) text below read [] ∙ ap (λ xs. get_or xs (get_or values i 0) []) same_texts in
-    ap (λ n. setting_text (n, value)) same_name ∙ ap (λ v. setting_text ((get_or params i p).name, v)) same_value
-
--- a setting that a loop reads at a place, appended to the text so far
-pub record IsReading (marks : List Bool) (params : List Param) (values : List ℕ) (i : ℕ) (p : Param) (texts : List (List ℕ)) (text name value before : List ℕ) : Type 0 where
+-- a marked parameter that a loop reads at a place, and its value
+pub record IsReading (marks : List Bool) (params : List Param) (values : List ℕ) (i : ℕ) (p : Param) (texts : List (List ℕ)) (text name value : List ℕ) : Type 0 where
   pub belongs : Belongs params values
   pub within : i < length params
   pub is : p ≡ get_or params i p
@@ -50,24 +39,29 @@ pub record IsReading (marks : List Bool) (params : List Param) (values : List �
   pub read : text ≡ get_or texts (get_or values i 0) text
   pub name-is : name ≡ p.name
   pub value-is : value ≡ text
-  pub so_far : before ≡ settings_text (values_until (λ k. slice_index_or marks k false) params values i)
   pub marked : slice_index_or marks i false ≡ true
 
--- what it is with the setting
-pub one_read : (marks : List Bool) (params : List Param) (values : List ℕ) (i : ℕ) (p : Param) (texts : List (List ℕ)) (text name value before after : List ℕ) → IsReading marks params values i p texts text name value before
-    → after ≡ with_setting before (name, value) → after ≡ settings_text (values_until (λ k. slice_index_or marks k false) params values (i + 1))
-one_read marks params values i p texts text name value before after r made =
-    let same = read_setting params values i p texts text name value r.belongs r.within r.is r.texts-are r.read r.name-is r.value-is in
-    let more = passing_more (λ k. slice_index_or marks k false) params values i p r.belongs r.within r.marked in
-    made ∙ ap (λ t. with_setting t (name, value)) r.so_far
-    ∙ ap (λ t. cond (length (settings_text (values_until (λ k. slice_index_or marks k false) params values i)) == 0) t (settings_text (values_until (λ k. slice_index_or marks k false) params values i) ++ (codes " " ++ t))) same
-    ∙ with_one_more (values_until (λ k. slice_index_or marks k false) params values i) (named (get_or params i p) (get_or values i 0))
-    ∙ ap settings_text (sym more)
+-- it is the parameter's name and its value there
+read_setting : (marks : List Bool) (params : List Param) (values : List ℕ) (i : ℕ) (p : Param) (texts : List (List ℕ)) (text name value : List ℕ)
+    → IsReading marks params values i p texts text name value → (name, value) ≡ named (get_or params i p) (get_or values i 0)
+read_setting marks params values i p texts text name value r =
+    let below = read_value_in_range params values i p texts r.belongs r.within r.is r.texts-are in
+    let same_texts : texts ≡ (get_or params i p).values = r.texts-are ∙ ap (λ q. q.values) r.is in
+    let same_name : name ≡ (get_or params i p).name = r.name-is ∙ ap (λ q. q.name) r.is in
+    let same_value : value ≡ get_or (get_or params i p).values (get_or values i 0) [] = r.value-is ∙ get_or_read texts (get_or values i 0) text below r.read [] ∙ ap (λ xs. get_or xs (get_or values i 0) []) same_texts in
+    λ k. (same_name k, same_value k)
 
--- after all parameters it is the text of all settings whose marks are set
-pub all_read : (marks : List Bool) (params : List Param) (values : List ℕ) (i : ℕ) (text : List ℕ) → Belongs params values → length params ≤ i → text ≡ settings_text (values_until (λ k. slice_index_or marks k false) params values i)
-    → text ≡ settings_text (at_places (λ k. slice_index_or marks k false) 0 (named_values params values))
-all_read marks params values i text h end so_far = so_far ∙ ap settings_text (until_all (λ k. slice_index_or marks k false) params values i h end)
+-- the settings so far with one more
+pub one_read : (marks : List Bool) (params : List Param) (values : List ℕ) (i : ℕ) (p : Param) (texts : List (List ℕ)) (text name value : List ℕ) (before : List (List ℕ × List ℕ)) → IsReading marks params values i p texts text name value
+    → before ≡ values_until (λ k. slice_index_or marks k false) params values i → before ++ (name, value) ∷ [] ≡ values_until (λ k. slice_index_or marks k false) params values (i + 1)
+one_read marks params values i p texts text name value before r so_far =
+    ap (λ ss. ss ++ (name, value) ∷ []) so_far
+    ∙ ap (λ s. values_until (λ k. slice_index_or marks k false) params values i ++ s ∷ []) (read_setting marks params values i p texts text name value r)
+    ∙ sym (passing_more (λ k. slice_index_or marks k false) params values i p r.belongs r.within r.marked)
+
+-- the text of settings and one more
+pub one_written : (settings : List (List ℕ × List ℕ)) (s : List ℕ × List ℕ) (before after : List ℕ) → before ≡ settings_text settings → after ≡ with_setting before s → after ≡ settings_text (settings ++ s ∷ [])
+one_written settings s before after so_far made = made ∙ ap (λ t. with_setting t s) so_far ∙ with_one_more settings s
 
 -- tests that agree below m keep the same elements
 at_places-alike : {X : Type 0} (f g : ℕ → Bool) (m place : ℕ) (xs : List X) → place + length xs ≤ m → ((k : ℕ) → k < m → f k ≡ g k) → at_places f place xs ≡ at_places g place xs
@@ -77,16 +71,16 @@ at_places-alike f g m place (x ∷ xs) h same =
     ap (λ b. cond b (x ∷ at_places f (place + 1) xs) (at_places f (place + 1) xs)) (same place (omega (arith, h)))
     ∙ ap (λ zs. cond (g place) (x ∷ zs) zs) later
 
--- the text of the marked settings is that of the active ones
-pub active_text : (lists : Lists) (config : List ℕ) (marks : List Bool) (params : List Param) (values text : List ℕ) → Belongs lists.params config → length lists.params ≤ 256 → params ≡ lists.params → values ≡ config
+-- the marked settings are the active ones
+pub active_marked : (lists : Lists) (config : List ℕ) (marks : List Bool) (params : List Param) (values : List ℕ) → Belongs lists.params config → length lists.params ≤ 256 → params ≡ lists.params → values ≡ config
     → ((p : ℕ) → p < 256 → slice_index_or marks p false ≡ is_active lists config p)
-    → text ≡ settings_text (at_places (λ k. slice_index_or marks k false) 0 (named_values params values)) → text ≡ settings_text (active_values lists config)
-active_text lists config marks params values text h few same same-values marked made =
+    → at_places (λ k. slice_index_or marks k false) 0 (named_values params values) ≡ active_values lists config
+active_marked lists config marks params values h few same same-values marked =
     let passes : ℕ → Bool = λ k. slice_index_or marks k false in
     let all : length (named_values lists.params config) ≡ length lists.params = length-all lists.params config h in
-    made ∙ ap (λ ps. settings_text (at_places passes 0 (named_values ps values))) same
-    ∙ ap (λ vs. settings_text (at_places passes 0 (named_values lists.params vs))) same-values
-    ∙ ap settings_text (at_places-alike passes (is_active lists config) 256 0 (named_values lists.params config) (omega (arith, all, few)) marked)
+    ap (λ ps. at_places passes 0 (named_values ps values)) same
+    ∙ ap (λ vs. at_places passes 0 (named_values lists.params vs)) same-values
+    ∙ at_places-alike passes (is_active lists config) 256 0 (named_values lists.params config) (omega (arith, all, few)) marked
   where
     length-all : (ps : List Param) (vs : List ℕ) → Belongs ps vs → length (named_values ps vs) ≡ length ps
     length-all [] vs h = refl

@@ -15,6 +15,7 @@ mod space;
 
 pub use config::Config;
 pub use lists::{Condition, Forbidden, Param, Part, Pick, SpaceFault, SpaceWhat};
+pub use settings::NamedValue;
 pub use space::Space;
 
 #[cfg(test)]

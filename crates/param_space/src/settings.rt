@@ -1,12 +1,22 @@
-//! The settings of a configuration as text.
-ghost use Rattle.std.specs.Prelude.{◌≡◌, ◌≤◌, false, length, slice_index_or, IfOk, OnOk};
+//! The settings of a configuration, and their text.
+ghost use Rattle.std.specs.Prelude.{◌≡◌, ◌≤◌, false, length, map, slice_index_or, IfOk, OnOk};
 ghost use Rattle.param_space.specs.Space.{Belongs};
+ghost use Rattle.param_space.specs.Named.{named_by};
 ghost use Rattle.param_space.specs.Settings.{named_values, at_places, with_setting, settings_text};
 
 use crate::lists::Param;
 use crate::marks::Marks;
 use objective::Memory;
 use std::alloc::Global;
+
+/// A parameter's name and its value.
+#[derive(Clone, Copy, Debug)]
+pub struct NamedValue<'a> {
+    /// The name.
+    pub name: &'a str,
+    /// The value.
+    pub value: &'a str,
+}
 
 /// Appends `name=value`, after a space where there is a text already, or a part of this
 /// where there is no memory left.
@@ -22,24 +32,37 @@ fn push_setting(out: &mut Vec<u8>, name: &str, value: &str) -> Result<(), Memory
     Ok(())
 }
 
-/// The settings of the marked ones of these parameters with these value numbers, parted by
-/// one space.
-pub fn made_settings(
+/// The names and values of the marked ones of these parameters with these value numbers.
+pub fn marked_values<'a>(
     alloc: Global,
-    params: &[Param],
+    params: &'a [Param],
     values: &[u16],
     active: &Marks,
-) -> Result<Vec<u8>, Memory>
+) -> Result<Vec<NamedValue<'a>>, Memory>
     requires belongs { Belongs params.now values.now }
     requires sizes { length params.now ≤ length active.now }
-    ensures { IfOk result (λ text. text.items ≡ settings_text (at_places (λ i. slice_index_or active.now i false) 0 (named_values params.now values.now))) }
+    ensures { IfOk result (λ v. map named_by v.items ≡ at_places (λ i. slice_index_or active.now i false) 0 (named_values params.now values.now)) }
 {
-    let mut out = Vec::new(alloc);
+    let mut found = Vec::new(alloc);
     for (i, param) in params.iter().enumerate() {
         if active[i] {
             let value = &param.values.as_slice()[usize::from(values[i])];
-            push_setting(&mut out, param.name.as_str(), value.as_str())?;
+            found.push(NamedValue {
+                name: param.name.as_str(),
+                value: value.as_str(),
+            })?;
         }
+    }
+    Ok(found)
+}
+
+/// Settings as a text, parted by one space.
+pub fn text_of(alloc: Global, settings: &[NamedValue<'_>]) -> Result<Vec<u8>, Memory>
+    ensures { IfOk result (λ text. text.items ≡ settings_text (map named_by settings.now)) }
+{
+    let mut out = Vec::new(alloc);
+    for setting in settings {
+        push_setting(&mut out, setting.name, setting.value)?;
     }
     Ok(out)
 }

@@ -1,9 +1,10 @@
 //! Spaces.
-ghost use Rattle.std.specs.Prelude.{ℕ, ◌≡◌, ◌<◌, ◌≤◌, ◌++◌, true, false, slice_index_or, OnOk, OnErr, IfOk, IfErr, None, length};
+ghost use Rattle.std.specs.Prelude.{ℕ, ◌≡◌, ◌<◌, ◌≤◌, ◌++◌, true, false, slice_index_or, OnOk, OnErr, IfOk, IfErr, None, length, map};
 ghost use Rattle.param_space.specs.Space.{defaults, Belongs};
 ghost use Rattle.param_space.specs.Faults.{space_fault, IsCause, IsSpace};
 ghost use Rattle.param_space.specs.Configurations.{is_active as active, settled, is_canonical as canonical, is_allowed as allowed, IsConfig};
-ghost use Rattle.param_space.specs.Settings.{active_values, settings_text};
+ghost use Rattle.param_space.specs.Named.{named_by};
+ghost use Rattle.param_space.specs.Settings.{active_values as values_of, settings_text};
 
 use crate::activity::{activity, forbids_any};
 use crate::checking::checked_order;
@@ -11,7 +12,7 @@ use crate::config::Config;
 use crate::copies::{copied_clauses, copied_conditions, copied_params};
 use crate::lists::{Condition, Forbidden, Param, SpaceFault};
 use crate::marks::Marks;
-use crate::settings::made_settings;
+use crate::settings::{NamedValue, marked_values, text_of};
 use objective::Memory;
 use plain_text::Items;
 use std::alloc::Global;
@@ -180,16 +181,25 @@ impl Space {
         Ok(Config::new(values))
     }
 
+    /// Each active parameter's name and its value, in order.
+    pub fn active_values(&self, config: &Config) -> Result<Vec<NamedValue<'_>>, Memory>
+        requires { Belongs self.now.params config.now }
+        ensures { IfOk result (λ v. map named_by v.items ≡ values_of self.now config.now) }
+    {
+        let alloc = *self.params.allocator();
+        let active = self.marks(config);
+        marked_values(alloc, self.params.as_slice(), config.values(), &active)
+    }
+
     /// Appends `name=value` for each active parameter in order, parted by one space. Where
     /// there is no memory left, nothing is appended.
     pub fn push_settings(&self, config: &Config, out: &mut Vec<u8>) -> Result<(), Memory>
         requires { Belongs self.now.params config.now }
-        ensures ok { OnOk result (out.new.items ≡ out.old.items ++ settings_text (active_values self.now config.now)) }
+        ensures ok { OnOk result (out.new.items ≡ out.old.items ++ settings_text (values_of self.now config.now)) }
         ensures err { OnErr result (out.new.items ≡ out.old.items) }
     {
         let alloc = *self.params.allocator();
-        let active = self.marks(config);
-        let text = made_settings(alloc, self.params.as_slice(), config.values(), &active)?;
+        let text = text_of(alloc, self.active_values(config)?.as_slice())?;
         out.extend_from_slice(text.as_slice())?;
         Ok(())
     }

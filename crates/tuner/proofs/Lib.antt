@@ -1,4 +1,3 @@
-pub mod Settings
 pub mod Costs
 pub mod Taking
 pub mod Sayings

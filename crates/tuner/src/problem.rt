@@ -1,7 +1,7 @@
 //! What is tuned, and its runs.
 ghost use Rattle.std.specs.Prelude.{◌≡◌, ◌≤◌, IfOk, ◌<◌, length, map};
 ghost use Rattle.param_space.specs.Space.{Belongs, defaults};
-ghost use Rattle.param_space.specs.Settings.{active_values};
+ghost use Rattle.param_space.specs.Settings.{active_values as values_of};
 ghost use Rattle.tuner.specs.Problem.{run_at as run_of, key_at as key_of, setting_from};
 
 use ils_face::Rules;
@@ -38,18 +38,15 @@ impl Model for Problem {
 /// The settings of a configuration: each active parameter's name with its value.
 fn settings_of(alloc: Global, space: &Space, config: &Config) -> Result<Vec<Setting>, Memory>
     requires { Belongs space.now.params config.now }
-    ensures { IfOk result (λ v. v.items ≡ map setting_from (active_values space.now config.now)) }
+    ensures { IfOk result (λ v. v.items ≡ map setting_from (values_of space.now config.now)) }
 {
-    let values = config.values();
+    let active = space.active_values(config)?;
     let mut settings = Vec::new(alloc);
-    for (i, param) in space.params().iter().enumerate() {
-        if space.is_active(config, i as u16) {
-            let value = &param.values.as_slice()[usize::from(values[i])];
-            settings.push(Setting {
-                name: param.name.copy()?,
-                value: value.copy()?,
-            })?;
-        }
+    for named in &active {
+        settings.push(Setting {
+            name: Text::of(alloc, named.name)?,
+            value: Text::of(alloc, named.value)?,
+        })?;
     }
     Ok(settings)
 }

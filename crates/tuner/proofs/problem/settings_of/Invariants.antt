@@ -1,7 +1,8 @@
-use Rattle.std.proofs.Common.{◌≡◌}
-use Rattle.tuner.proofs.Settings.{settings_until}
+use Rattle.std.proofs.Common.{◌≡◌, map, take}
+use Rattle.param_space.specs.Named.{named_by}
+use Rattle.tuner.specs.Problem.{setting_from}
 use Rattle.tuner.proofs.problem.settings_of.Given as goal
 
 -- the settings so far
-abbrev pub invariant-loop-i : goal.invariant-loop-i
-invariant-loop-i l = l.settings.items ≡ settings_until l.space l.config l.i
+abbrev pub invariant-loop-named : goal.invariant-loop-named
+invariant-loop-named l = l.settings.items ≡ map setting_from (map named_by (take l.named-index l.named-items))

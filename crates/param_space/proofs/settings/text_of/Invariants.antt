@@ -1,0 +1,8 @@
+use Rattle.std.proofs.Common.{◌≡◌, map, take}
+use Rattle.param_space.specs.Named.{named_by}
+use Rattle.param_space.specs.Settings.{settings_text}
+use Rattle.param_space.proofs.settings.text_of.Given as goal
+
+-- the text of the settings so far
+abbrev pub invariant-loop-setting : goal.invariant-loop-setting
+invariant-loop-setting l = l.out.items ≡ settings_text (map named_by (take l.setting-index l.settings))
