@@ -3,7 +3,7 @@ use Rattle.std.specs.Prelude.{ℕ, ◌≡◌, ◌≤◌, ◌<◌, Bool, true, fa
 use Rattle.std.proofs.Common.{subst, arith, cond}
 use Rattle.std.proofs.lemmas.Bool.Decides.{nat_tests}
 use Rattle.std.proofs.lemmas.List.{length-append}
-use Rattle.plain_text.specs.Lines.{numbered_lines}
+use Rattle.plain_text.specs.Lines.{max_bytes, numbered_lines}
 use Rattle.instance_pairs.specs.declared.faults.InstanceWhat.{InstanceWhat}
 use Rattle.instance_pairs.specs.declared.faults.InstanceWhat.TheVariants.{TooMany}
 use Rattle.instance_pairs.specs.declared.faults.InstanceFault.{InstanceFault}
@@ -41,7 +41,7 @@ some_read is (i ∷ later) e =
 -- a file has 1 to 100,000 instances
 pub number_read : (text : List ℕ) (is : List Instance) → instances_read text ≡ Ok is → (1 ≤ length is) × (length is ≤ 100000)
 unfolding instances_read
-number_read text is e = small (nat_lt 16777216 (length text)) e
+number_read text is e = small (nat_lt max_bytes (length text)) e
   where
     lines_in : (r : Result (List Instance) InstanceFault) → with_lines [] (numbered_lines text) ≡ r → r >>= some_instances ≡ Ok is → (1 ≤ length is) × (length is ≤ 100000)
     lines_in (Ok all) read e =

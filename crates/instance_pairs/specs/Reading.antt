@@ -1,7 +1,7 @@
 -- The instances of an instance file, or its first fault with its line.
-use Rattle.std.specs.Prelude.{ℕ, ◌≡◌, ◌-◌, List, [], ◌∷◌, ◌++◌, Option, Some, None, Result, Ok, Err, nat_lt, length, take, drop, if◌then◌else◌}
+use Rattle.std.specs.Prelude.{ℕ, ◌≡◌, List, [], ◌∷◌, ◌++◌, Option, Some, None, Result, Ok, Err, nat_lt, length, if◌then◌else◌}
 use Rattle.std.specs.Str.{is_utf8}
-use Rattle.plain_text.specs.Lines.{numbered_lines}
+use Rattle.plain_text.specs.Lines.{max_bytes, numbered_lines}
 pub use Rattle.plain_text.specs.Results.{◌>>=◌}
 use Rattle.plain_text.specs.Trimming.{front_trimmed, end_trimmed, first_word, after_word}
 use Rattle.instance_pairs.specs.declared.faults.InstanceWhat.{InstanceWhat}
@@ -60,7 +60,7 @@ some_instances (i ∷ later) = Ok (i ∷ later)
 
 -- the instances of a file, or its first fault
 unfoldable pub instances_read : List ℕ → Result (List Instance) InstanceFault
-instances_read text = if nat_lt 16777216 (length text) then Err (At 0 TooMany) else with_lines [] (numbered_lines text) >>= some_instances
+instances_read text = if nat_lt max_bytes (length text) then Err (At 0 TooMany) else with_lines [] (numbered_lines text) >>= some_instances
 
 -- the fault that is returned is the one that is found; memory may always run out
 abbrev pub IsReadingFault : {A : Type 0} → InstanceFault → Result A InstanceFault → Type 0

@@ -5,12 +5,9 @@ ghost use Rattle.instance_pairs.specs.Reading.{in_line, line_stated, with_instan
 
 use crate::faults::{InstanceFault, InstanceWhat};
 use crate::instances::{Instance, instance_of};
-use plain_text::lines;
+use plain_text::{MAX_BYTES, lines};
 use std::alloc::Global;
 use std::str;
-
-/// The greatest length of a file in bytes.
-const MAX_BYTES: usize = 16_777_216;
 
 /// The greatest number of instances.
 const MAX_INSTANCES: usize = 100_000;

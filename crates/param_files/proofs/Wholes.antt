@@ -2,7 +2,7 @@
 use Rattle.std.proofs.Common.{ℕ, ◌≡◌, ◌<◌, ◌≤◌, cond, List, [], ◌∷◌, Result, Ok, Err, length, map, refl, ap, sym, subst, ◌∙◌, arith}
 use Rattle.std.specs.List.{filter}
 use Rattle.std.proofs.lemmas.Bool.{le-ltb}
-use Rattle.plain_text.specs.Lines.{numbered_lines}
+use Rattle.plain_text.specs.Lines.{max_bytes, numbered_lines}
 use Rattle.param_space.specs.declared.lists.Param.{Param}
 use Rattle.param_space.specs.declared.lists.SpaceWhat.TheVariants.{NoParameters, TooMany}
 use Rattle.param_space.specs.Space.{Lists}
@@ -36,7 +36,7 @@ nonempty (p ∷ ps) h = refl
 abbrev rest_of : List (ℕ × Statement) → List Param → Result Lists ParamFault
 rest_of stated params = all_numbered params stated >>= λ numbered. whole numbered (lists_of params numbered)
 
-module _ (text : List ℕ) (kept : Kept) (short : length text ≤ 16777216) (read : AreKept (lines_read [] (numbered_lines text)) kept) where
+module _ (text : List ℕ) (kept : Kept) (short : length text ≤ max_bytes) (read : AreKept (lines_read [] (numbered_lines text)) kept) where
   params_are : kept.params ≡ params_in (map (λ s. s.1) read.0)
   unfolding kept_of
   params_are = ap (λ k. k.params) read.2
@@ -49,7 +49,7 @@ module _ (text : List ℕ) (kept : Kept) (short : length text ≤ 16777216) (rea
   from_kept : params_read text ≡ (some_params kept.params >>= rest_of read.0)
   unfolding params_read space_stated
   from_kept =
-      ap (λ b. cond b (Err (At 0 (Space TooMany))) (lines_read [] (numbered_lines text) >>= space_stated)) (le-ltb 16777216 (length text) short)
+      ap (λ b. cond b (Err (At 0 (Space TooMany))) (lines_read [] (numbered_lines text) >>= space_stated)) (le-ltb max_bytes (length text) short)
       ∙ ap (λ r. r >>= space_stated) read.1
       ∙ ap (λ ps. some_params ps >>= rest_of read.0) (sym params_are)
 

@@ -9,7 +9,7 @@ use Rattle.param_space.specs.declared.lists.SpaceFault.{SpaceFault}
 use Rattle.param_space.specs.declared.lists.SpaceFault.TheVariants as space_fault
 use Rattle.param_space.specs.Space.{Lists}
 use Rattle.param_space.specs.Faults.{first_broken, first_in, or_later, or_else, cycle_rules, cycle_fault, default_rules, default_fault, whole_fault}
-use Rattle.plain_text.specs.Lines.{numbered_lines}
+use Rattle.plain_text.specs.Lines.{max_bytes, numbered_lines}
 use Rattle.param_files.specs.declared.faults.ParamWhat.{ParamWhat}
 use Rattle.param_files.specs.declared.faults.ParamWhat.TheVariants.{Space}
 use Rattle.param_files.specs.declared.faults.ParamFault.{ParamFault}
@@ -97,7 +97,7 @@ placed_space stated =
 -- each text is read as a space, or has a first fault with its line
 pub placed_read : (text : List ℕ) → IsPlaced (params_read text)
 unfolding params_read
-placed_read text = by (nat_lt 16777216 (length text)) (placed_after (lines_read [] (numbered_lines text)) space_stated (placed_lines [] (numbered_lines text)) placed_space)
+placed_read text = by (nat_lt max_bytes (length text)) (placed_after (lines_read [] (numbered_lines text)) space_stated (placed_lines [] (numbered_lines text)) placed_space)
   where
     by : (b : Bool) → IsPlaced (lines_read [] (numbered_lines text) >>= space_stated) → IsPlaced (cond b (Err (At 0 (Space TooMany))) (lines_read [] (numbered_lines text) >>= space_stated))
     by true h = tt

@@ -2,7 +2,7 @@
 use Rattle.std.specs.Prelude.{ℕ, ◌≡◌, ◌&&◌, Bool, true, false, not, List, [], ◌∷◌, ◌++◌, Option, Some, None, Result, Ok, Err, nat_lt, nat_le, length, map, slice_index, slice_index_or, option_map, position, bytes_eq, if◌then◌else◌}
 use Rattle.std.specs.List.{list_any, filter, position_or_len}
 use Rattle.std.specs.Str.{is_utf8}
-use Rattle.plain_text.specs.Lines.{numbered_lines}
+use Rattle.plain_text.specs.Lines.{max_bytes, numbered_lines}
 pub use Rattle.plain_text.specs.Results.{◌>>=◌, or_fault}
 use Rattle.plain_text.specs.Tokens.{token_texts}
 use Rattle.param_space.specs.declared.lists.Param.{Param}
@@ -237,7 +237,7 @@ space_stated stated =
 -- the space of a file, or its first fault
 unfoldable pub params_read : List ℕ → Result Lists ParamFault
 params_read text =
-    if nat_lt 16777216 (length text) then Err (At 0 (Space TooMany)) else lines_read [] (numbered_lines text) >>= space_stated
+    if nat_lt max_bytes (length text) then Err (At 0 (Space TooMany)) else lines_read [] (numbered_lines text) >>= space_stated
 
 -- the fault that is returned is the one that is found; memory may always run out
 abbrev pub IsReadingFault : {A : Type 0} → ParamFault → Result A ParamFault → Type 0

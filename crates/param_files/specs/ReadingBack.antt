@@ -6,6 +6,7 @@ use Rattle.std.proofs.lemmas.Bool.{le-ltb}
 use Rattle.std.proofs.lemmas.List.{append-nil, append_assoc, map_push}
 use Rattle.std.proofs.lemmas.List.Elements.{All-nil, All-cons, All-head, All-tail, All-weaker}
 use Rattle.std.proofs.lemmas.Str.{is_utf8-from_IsUtf8}
+use Rattle.plain_text.specs.Lines.{max_bytes}
 use Rattle.plain_text.specs.Tokens.{token_texts}
 use Rattle.plain_text.specs.LineTexts.{fits_line, numbered_from, numbered_lines-ended, numbered_lines-utf8}
 use Rattle.param_space.specs.declared.lists.Param.{Param}
@@ -131,7 +132,7 @@ module _ (lists : Lists) (space : IsSpace lists) where
       rw (back, some_are lists.params space.params, read.1) (ap (whole read.0) same ∙ rw (space.acyclic, space.default))
 
   -- what is printed of a space is read back as that space
-  pub reads_back : IsUtf8 (printed lists) → length (printed lists) ≤ 16777216 → params_read (printed lists) ≡ Ok lists
+  pub reads_back : IsUtf8 (printed lists) → length (printed lists) ≤ max_bytes → params_read (printed lists) ≡ Ok lists
   unfolding params_read
   reads_back utf8 few =
       let lines = space_lines lists in
@@ -139,4 +140,4 @@ module _ (lists : Lists) (space : IsSpace lists) where
       let ended = numbered_lines-ended lines (all_fit lines (all_stated lists) are) in
       let utf8_lines = subst (All (λ (l : ℕ × List ℕ). IsUtf8 l.1)) ended (numbered_lines-utf8 (printed lists) utf8) in
       let read = lines_are_read [] 1 lines (all_stated lists) are utf8_lines (space_accepted lists space) in
-      rw (le-ltb 16777216 (length (printed lists)) few, ended, read) stated_back
+      rw (le-ltb max_bytes (length (printed lists)) few, ended, read) stated_back

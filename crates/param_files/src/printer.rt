@@ -1,6 +1,7 @@
 //! A space as the text of a parameter file.
 ghost use Rattle.std.specs.Prelude.{◌≡◌, ◌≤◌, ◌++◌, [], Ok, IfOk, OnOk, OnErr, string_bytes, slice_index_or, length, map, codes};
 ghost use Rattle.std.specs.List.{flat_map};
+ghost use Rattle.plain_text.specs.Lines.{max_bytes};
 ghost use Rattle.param_space.specs.Faults.{IsSpace};
 ghost use Rattle.param_files.specs.Reading.{params_read};
 ghost use Rattle.param_files.specs.Printing.{name_of, value_of, pick_text as text_of_pick, with_commas, param_line as line_of_param, condition_line as line_of_condition, clause_line as line_of_clause, printed};
@@ -174,7 +175,7 @@ fn space_text(alloc: Global, space: &Space) -> Result<String, Memory>
 pub fn print_params(space: &Space, out: &mut Vec<u8>) -> Result<(), Memory>
     ensures ok { OnOk result (out.new.items ≡ out.old.items ++ printed space.now) }
     ensures err { OnErr result (out.new.items ≡ out.old.items) }
-    ensures reads_back { OnOk result (length (printed space.now) ≤ 16777216 → params_read (printed space.now) ≡ Ok space.now) }
+    ensures reads_back { OnOk result (length (printed space.now) ≤ max_bytes → params_read (printed space.now) ≡ Ok space.now) }
 {
     let text = space_text(*out.allocator(), space)?;
     out.extend_from_slice(text.as_str().as_bytes())?;

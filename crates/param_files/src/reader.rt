@@ -11,12 +11,9 @@ use crate::kept::Kept;
 use crate::numbering::{Numbered, all_by_numbers, line_of};
 use crate::statements::Statement;
 use param_space::{Param, Space, SpaceFault, SpaceWhat};
-use plain_text::{lines, token_texts};
+use plain_text::{MAX_BYTES, lines, token_texts};
 use std::alloc::Global;
 use std::str;
-
-/// The greatest length of a file in bytes.
-const MAX_BYTES: usize = 16_777_216;
 
 /// What a line states. Fails where it is no text or has none of the forms.
 #[tactic(auto, unfolding(crate::specs::Reading::line_stated))]

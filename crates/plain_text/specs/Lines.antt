@@ -3,6 +3,10 @@ use Rattle.std.specs.Prelude.{ℕ, Bool, ◌≡◌, ◌+◌, ◌-◌, ◌&&◌, 
 use Rattle.std.specs.List.{slice_split}
 use Rattle.plain_text.specs.declared.breaks.Line.{Line}
 
+-- the most bytes that a file may have
+abbrev pub max_bytes : ℕ
+max_bytes = 16777216
+
 -- a line feed
 abbrev pub is_break : ℕ → Bool
 is_break b = b == 10

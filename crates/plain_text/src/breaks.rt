@@ -6,6 +6,9 @@ ghost use Rattle.plain_text.specs.Lines.{is_break, ended_size as size_ended, lin
 
 use std::marker::Model;
 
+/// The most bytes that a file may have.
+pub const MAX_BYTES: usize = 16_777_216;
+
 /// The place of a line in its text.
 #[derive(Clone, Copy, Debug, PartialEq, Eq)]
 pub struct Line {

@@ -14,7 +14,7 @@ mod tokenizer;
 mod trimming;
 mod words;
 
-pub use breaks::{Line, TextLines, lines};
+pub use breaks::{Line, MAX_BYTES, TextLines, lines};
 pub use cuts::{after_prefix, parted};
 pub use decimals::{push_seconds, read_count, seconds_text};
 pub use items::Items;

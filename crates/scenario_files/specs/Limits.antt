@@ -7,7 +7,7 @@ use Rattle.std.specs.Str.Parse.{digits_value}
 use Rattle.std.proofs.Common.{cond, arith, subst}
 use Rattle.std.proofs.lemmas.Bool.Decides.{nat_tests}
 use Rattle.objective.specs.declared.Micros.{Micros}
-use Rattle.plain_text.specs.Lines.{numbered_lines}
+use Rattle.plain_text.specs.Lines.{max_bytes, numbered_lines}
 use Rattle.plain_text.specs.Parts.{parted, after_prefix}
 use Rattle.plain_text.specs.Times.{micros_read}
 use Rattle.plain_text.specs.Results.{◌>>=◌}
@@ -222,7 +222,7 @@ nothing_within = (tt, tt, tt, tt, tt, tt, tt, tt, tt, tt, tt, tt, tt, tt, tt)
 -- what a file gives lies within its limits
 pub scenario_within : (text : List ℕ) (d : Draft) → scenario_read text ≡ Ok d → AreWithin d
 unfolding scenario_read
-scenario_within text d h = by (nat_lt 16777216 (length text)) h
+scenario_within text d h = by (nat_lt max_bytes (length text)) h
   where
     by : (b : Bool) → cond b (Err (At 0 BadValue)) (with_lines nothing (numbered_lines text)) ≡ Ok d → AreWithin d
     by true h = absurd (cc)

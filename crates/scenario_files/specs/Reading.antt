@@ -2,7 +2,7 @@
 use Rattle.std.specs.Prelude.{ℕ, ◌≡◌, ◌==◌, List, [], ◌∷◌, Option, Some, None, Result, Ok, Err, nat_lt, length, if◌then◌else◌}
 use Rattle.std.specs.List.{list_all, before_first}
 use Rattle.std.specs.Str.{is_utf8}
-use Rattle.plain_text.specs.Lines.{numbered_lines}
+use Rattle.plain_text.specs.Lines.{max_bytes, numbered_lines}
 use Rattle.plain_text.specs.Parts.{parted}
 use Rattle.plain_text.specs.Results.{◌>>=◌}
 use Rattle.plain_text.specs.Trimming.{trimmed}
@@ -78,7 +78,7 @@ with_lines d ((number, line) ∷ later) = in_line number (with_line d line) >>= 
 
 -- the keys of a file, or its first fault
 unfoldable pub scenario_read : List ℕ → Result Draft ScenarioFault
-scenario_read text = if nat_lt 16777216 (length text) then Err (At 0 BadValue) else with_lines nothing (numbered_lines text)
+scenario_read text = if nat_lt max_bytes (length text) then Err (At 0 BadValue) else with_lines nothing (numbered_lines text)
 
 -- the fault that is returned is the one that is found; memory may always run out
 abbrev pub IsReadingFault : {A : Type 0} → ScenarioFault → Result A ScenarioFault → Type 0

@@ -9,12 +9,9 @@ ghost use Rattle.scenario_files.specs.Reading.{uncommented as before_comment, no
 use crate::draft::Draft;
 use crate::faults::{Refused, ScenarioFault, ScenarioWhat};
 use crate::values::is_empty;
-use plain_text::{lines, parted, trimmed};
+use plain_text::{MAX_BYTES, lines, parted, trimmed};
 use std::alloc::Global;
 use std::str;
-
-/// The greatest length of a file in bytes.
-const MAX_BYTES: usize = 16_777_216;
 
 /// What stands before a comment.
 fn uncommented(line: &str) -> &str
