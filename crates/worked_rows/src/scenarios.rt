@@ -1,7 +1,9 @@
 //! Which pairs a scenario's words and files ask for, and a usual scenario.
 use crate::refusals::One;
 use crate::tests::{folder, quiet, spoken, tuned};
+use objective::Memory;
 use outside::{MemoryFiles, TableSeat};
+use std::alloc::Global;
 use std::test::Fail;
 use tuner::{Seat, Status};
 
@@ -126,6 +128,15 @@ rho {0, 0.17, 0.333, 0.5, 0.666, 0.83, 1} [0.5]
 wp {0, 0.01, 0.02, 0.03, 0.04, 0.05, 0.06} [0.03]
 ";
 
+/// The files of the usual scenario.
+fn usual_files(alloc: Global) -> Result<MemoryFiles, Memory> {
+    let mut files = MemoryFiles::new(alloc);
+    files.put("saps", SAPS.as_bytes())?;
+    files.put("p", PARAMS.as_bytes())?;
+    files.put("i", b"cnf/a.cnf\ncnf/b.cnf\n")?;
+    Ok(files)
+}
+
 #[test]
 fn a_usual_scenario_is_read_as_it_stands(rt: HostRuntime) -> Result<(), Fail> {
     let alloc = rt.alloc();
@@ -141,23 +152,32 @@ fn a_usual_scenario_is_read_as_it_stands(rt: HostRuntime) -> Result<(), Fail> {
         "-approach",
         "basic",
     ];
-    let mut files = MemoryFiles::new(alloc);
-    files.put("saps", SAPS.as_bytes())?;
-    files.put("p", PARAMS.as_bytes())?;
-    files.put("i", b"cnf/a.cnf\ncnf/b.cnf\n")?;
+    let mut files = usual_files(alloc)?;
     let mut seats = [Seat::new(TableSeat::<One>::new(alloc, quiet(alloc)?)?)];
-    let (status, out) = tuned(&rt, alloc, &words[..8], &mut files, &mut seats)?;
-    assert_eq!(rt; status, Status::Unbuilt); // FocusedILS by default
-    assert_eq!(rt; out.bytes(), b"unbuilt\n".as_slice());
     let (status, out) = tuned(&rt, alloc, &words, &mut files, &mut seats)?;
     assert_eq!(rt; status, Status::Ok);
     assert_eq!(rt;
         out.bytes(),
         b"0 100 100.000000 alpha=1.189 ps=0.1 rho=0.5 wp=0.03\nend 1 100 100.000000 alpha=1.189 ps=0.1 rho=0.5 wp=0.03\n".as_slice()
     );
+    let Some(first) = seats[0].spawner().starts().first() else {
+        return Err(Fail::new("a child is started"));
+    };
     assert_eq!(rt;
-        spoken(alloc, seats[0].spawner().starts()[0].as_slice())?.as_str(),
+        spoken(alloc, first.as_slice())?.as_str(),
         "ruby saps_wrapper.rb cnf/a.cnf 0 5.000000 2147483647 1 -alpha 1.189 -ps 0.1 -rho 0.5 -wp 0.03"
     );
+    Ok(())
+}
+
+#[test]
+fn a_usual_scenario_asks_for_focused_search(rt: HostRuntime) -> Result<(), Fail> {
+    let alloc = rt.alloc();
+    let mut files = usual_files(alloc)?;
+    let mut seats = [Seat::new(TableSeat::<One>::new(alloc, quiet(alloc)?)?)];
+    let words = ["-scenariofile", "saps"];
+    let (status, out) = tuned(&rt, alloc, &words, &mut files, &mut seats)?;
+    assert_eq!(rt; status, Status::Unbuilt);
+    assert_eq!(rt; out.bytes(), b"unbuilt\n".as_slice());
     Ok(())
 }
