@@ -2,6 +2,7 @@
 use Rattle.std.specs.Prelude.{ℕ, ◌+◌, ◌==◌, Bool, List, [], ◌∷◌, ◌++◌, length, codes, if◌then◌else◌}
 use Rattle.std.specs.List.{slice_index_or}
 use Rattle.param_space.specs.declared.lists.Param.{Param}
+use Rattle.param_space.specs.declared.settings.NamedValue.{NamedValue}
 use Rattle.param_space.specs.Space.{Lists}
 use Rattle.param_space.specs.Configurations.{is_active}
 
@@ -20,6 +21,10 @@ at_places passes place (x ∷ later) =
 -- each active parameter's name and its value, in the order of the space
 abbrev pub active_values : Lists → List ℕ → List (List ℕ × List ℕ)
 active_values lists config = at_places (is_active lists config) 0 (named_values lists.params config)
+
+-- a name and a value as contracts see them
+abbrev pub named_by : NamedValue → List ℕ × List ℕ
+named_by s = (s.name.now, s.value.now)
 
 -- `name=value`
 abbrev pub setting_text : List ℕ × List ℕ → List ℕ

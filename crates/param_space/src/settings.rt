@@ -1,8 +1,7 @@
 //! The settings of a configuration, and their text.
 ghost use Rattle.std.specs.Prelude.{◌≡◌, ◌≤◌, false, length, map, slice_index_or, IfOk, OnOk};
 ghost use Rattle.param_space.specs.Space.{Belongs};
-ghost use Rattle.param_space.specs.Named.{named_by};
-ghost use Rattle.param_space.specs.Settings.{named_values, at_places, with_setting, settings_text};
+ghost use Rattle.param_space.specs.Settings.{named_by, named_values, at_places, with_setting, settings_text};
 
 use crate::lists::Param;
 use crate::marks::Marks;

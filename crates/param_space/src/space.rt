@@ -3,8 +3,7 @@ ghost use Rattle.std.specs.Prelude.{ℕ, ◌≡◌, ◌<◌, ◌≤◌, ◌++◌
 ghost use Rattle.param_space.specs.Space.{defaults, Belongs};
 ghost use Rattle.param_space.specs.Faults.{space_fault, IsCause, IsSpace};
 ghost use Rattle.param_space.specs.Configurations.{is_active as active, settled, is_canonical as canonical, is_allowed as allowed, IsConfig};
-ghost use Rattle.param_space.specs.Named.{named_by};
-ghost use Rattle.param_space.specs.Settings.{active_values as values_of, settings_text};
+ghost use Rattle.param_space.specs.Settings.{named_by, active_values as values_of, settings_text};
 
 use crate::activity::{activity, forbids_any};
 use crate::checking::checked_order;

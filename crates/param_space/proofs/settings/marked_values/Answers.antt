@@ -1,8 +1,8 @@
 use Rattle.std.proofs.Common.{◌∙◌, ◌∷◌, [], false, arith, sym, ap, get_or, map}
 use Rattle.std.specs.List.{slice_index_or}
 use Rattle.std.proofs.lemmas.List.{map-append}
+use Rattle.param_space.specs.Settings.{named_by}
 use Rattle.param_space.specs.Belonging.{length-Belongs, read_value_in_range}
-use Rattle.param_space.specs.Named.{named_by}
 use Rattle.param_space.proofs.ActiveValues.{failing_more, until_all}
 use Rattle.param_space.proofs.Texts.{one_read}
 use Rattle.param_space.proofs.settings.marked_values.Goals as goal

@@ -1,6 +1,6 @@
 use Rattle.std.proofs.Common.{◌≡◌, false, map}
 use Rattle.std.specs.List.{slice_index_or}
-use Rattle.param_space.specs.Named.{named_by}
+use Rattle.param_space.specs.Settings.{named_by}
 use Rattle.param_space.proofs.ActiveValues.{values_until}
 use Rattle.param_space.proofs.settings.marked_values.Given as goal
 

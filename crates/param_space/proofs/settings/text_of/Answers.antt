@@ -1,7 +1,6 @@
 use Rattle.std.proofs.Common.{◌∙◌, ap, map, take, sym}
 use Rattle.std.proofs.lemmas.List.{map_more}
-use Rattle.param_space.specs.Named.{named_by}
-use Rattle.param_space.specs.Settings.{settings_text}
+use Rattle.param_space.specs.Settings.{named_by, settings_text}
 use Rattle.param_space.proofs.Texts.{one_written}
 use Rattle.param_space.proofs.settings.text_of.Goals as goal
 

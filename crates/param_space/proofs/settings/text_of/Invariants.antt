@@ -1,6 +1,5 @@
 use Rattle.std.proofs.Common.{◌≡◌, map, take}
-use Rattle.param_space.specs.Named.{named_by}
-use Rattle.param_space.specs.Settings.{settings_text}
+use Rattle.param_space.specs.Settings.{named_by, settings_text}
 use Rattle.param_space.proofs.settings.text_of.Given as goal
 
 -- the text of the settings so far

@@ -1,5 +1,5 @@
 use Rattle.std.proofs.Common.{◌≡◌, map, take}
-use Rattle.param_space.specs.Named.{named_by}
+use Rattle.param_space.specs.Settings.{named_by}
 use Rattle.tuner.specs.Problem.{setting_from}
 use Rattle.tuner.proofs.problem.settings_of.Given as goal
 
