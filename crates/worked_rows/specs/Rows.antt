@@ -1,7 +1,7 @@
--- The outcomes of worked searches.
-use Rattle.std.specs.Prelude.{ℕ, Bool, false, ◌*◌, ◌==◌, List, [], ◌∷◌, bytes_eq, codes, if◌then◌else◌}
+-- What children answer.
+use Rattle.std.specs.Prelude.{ℕ, Bool, false, ◌+◌, ◌-◌, ◌*◌, ◌==◌, List, [], ◌∷◌, bytes_eq, codes, slice_index_or, if◌then◌else◌}
 use Rattle.objective.specs.declared.Outcome.{Outcome}
-use Rattle.objective.specs.declared.Outcome.TheVariants.{Solved, Unsolved}
+use Rattle.objective.specs.declared.Outcome.TheVariants.{Solved, Unsolved, Crashed, Abort}
 use Rattle.outside.specs.declared.runs.Key.{Key}
 use Rattle.outside.specs.declared.runs.Setting.{Setting}
 
@@ -10,21 +10,25 @@ abbrev pub has : List ℕ → List Setting → Bool
 has value [] = false
 has value (s ∷ rest) = bytes_eq s.value value
 
--- the outcome on the first pair, whose seed is 1, or on the second
-abbrev pub by_pair : ℕ → Outcome → Outcome → Outcome
-by_pair seed first second = if seed == 1 then first else second
+-- the letters of an instance with these specifics
+abbrev pub letters_of : List ℕ → List ℕ
+letters_of specifics = if bytes_eq specifics (codes "0") then codes "3429" else specifics
 
--- solved after so many seconds
-abbrev pub solved : ℕ → Outcome
-solved n = Solved (record { 0 = n * 1000000 })
+-- the column of a run: of the seed 1 or another one, and of b or another value
+abbrev pub column_of : Key → ℕ
+column_of key = let others : ℕ = if key.seed == 1 then 0 else 1 in if has (codes "b") key.settings then 2 + others else others
 
--- a is solved after 3 and 4 seconds, and b does this
-abbrev pub against : Outcome → Outcome → Key → Outcome
-against first second key = if has (codes "b") key.settings then by_pair key.seed first second else by_pair key.seed (solved 3) (solved 4)
+-- the outcome that a letter stands for: a digit for that many seconds, u for no solution, c for a crash and x for an abort
+abbrev pub stands_for : ℕ → Outcome
+stands_for letter =
+    if letter == 117 then Unsolved
+    else if letter == 99 then Crashed (record { 0 = 1000000 })
+    else if letter == 120 then Abort (record { 0 = 1000000 })
+    else Solved (record { 0 = (letter - 48) * 1000000 })
 
--- a is not solved on the first pair and costs 1 second on the second, b costs 9 seconds and is not solved
-abbrev pub half_solved : Key → Outcome
-half_solved key = if has (codes "b") key.settings then by_pair key.seed (solved 9) Unsolved else by_pair key.seed Unsolved (solved 1)
+-- the outcome of a run, by the letter in its column
+abbrev pub outcome_at : Key → Outcome
+outcome_at key = stands_for (slice_index_or (letters_of key.specifics) (column_of key) 117)
 
 -- on the instance easy the first value costs 1.25 seconds and another one 1.5, elsewhere 4 and 2
 abbrev pub by_heuristic : Key → Outcome

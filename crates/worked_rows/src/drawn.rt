@@ -2,7 +2,7 @@
 ghost use Rattle.std.specs.Prelude.{◌≡◌};
 ghost use Rattle.worked_rows.specs.Rows.{by_heuristic as outcome_by_heuristic};
 
-use crate::searches::has;
+use crate::table::has;
 use crate::tests::{quiet, tuned};
 use objective::{Micros, Outcome};
 use outside::{Key, MemoryFiles, Table, TableSeat};

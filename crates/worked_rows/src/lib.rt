@@ -15,4 +15,6 @@ mod searches;
 #[cfg(test)]
 mod spaces;
 #[cfg(test)]
+mod table;
+#[cfg(test)]
 mod tests;

@@ -1,24 +1,12 @@
 //! Words, files and seats that are refused, by the line that is printed.
+use crate::table::Rows;
 use crate::tests::{SCENARIO, folder, quiet, tuned};
-use objective::{Memory, Micros, Outcome};
-use outside::{Key, MemoryFiles, MemorySink, Table, TableSeat};
+use objective::Memory;
+use outside::{MemoryFiles, MemorySink, TableSeat};
 use std::alloc::Global;
 use std::sync::Wait;
 use std::test::Fail;
 use tuner::{Seat, Status};
-
-/// Each run takes a second.
-pub(crate) struct One;
-
-impl Table for One {
-    ghost use Rattle.objective.specs.declared.Outcome.TheVariants.{Solved};
-
-    ghost outcome = { λ key. Solved (record { 0 = 1000000 }) };
-
-    fn outcome(_key: &Key) -> Outcome {
-        Outcome::Solved(Micros(1_000_000))
-    }
-}
 
 /// The words of a tuning that ends with the opening evaluation.
 const WORDS: [&str; 4] = ["-scenariofile", "s", "-maxComparisons", "0"];
@@ -31,8 +19,8 @@ fn with_two_seats<R: Wait>(
     files: &mut MemoryFiles,
 ) -> Result<(Status, MemorySink), Memory> {
     let mut seats = [
-        Seat::new(TableSeat::<One>::new(alloc, quiet(alloc)?)?),
-        Seat::new(TableSeat::<One>::new(alloc, quiet(alloc)?)?),
+        Seat::new(TableSeat::<Rows>::new(alloc, quiet(alloc)?)?),
+        Seat::new(TableSeat::<Rows>::new(alloc, quiet(alloc)?)?),
     ];
     tuned(rt, alloc, words, files, &mut seats)
 }
@@ -167,14 +155,14 @@ fn the_first_of_two_seats_runs_all(rt: HostRuntime) -> Result<(), Fail> {
     ];
     let mut files = folder(alloc)?;
     let mut seats = [
-        Seat::new(TableSeat::<One>::new(alloc, quiet(alloc)?)?),
-        Seat::new(TableSeat::<One>::new(alloc, quiet(alloc)?)?),
+        Seat::new(TableSeat::<Rows>::new(alloc, quiet(alloc)?)?),
+        Seat::new(TableSeat::<Rows>::new(alloc, quiet(alloc)?)?),
     ];
     let (status, out) = tuned(&rt, alloc, &words, &mut files, &mut seats)?;
     assert_eq!(rt; status, Status::Ok);
     assert_eq!(rt;
         out.bytes(),
-        b"0 2 2.000000 x=a\nend 0 2 2.000000 x=a\n".as_slice()
+        b"0 2 7.000000 x=a\nend 0 2 7.000000 x=a\n".as_slice()
     );
     assert_eq!(rt; seats[0].spawner().starts().len(), 2);
     assert!(rt; seats[1].spawner().starts().is_empty());

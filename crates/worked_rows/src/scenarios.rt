@@ -1,5 +1,5 @@
 //! Which pairs a scenario's words and files ask for, and a usual scenario.
-use crate::refusals::One;
+use crate::table::Rows;
 use crate::tests::{folder, quiet, spoken, tuned};
 use objective::Memory;
 use outside::{MemoryFiles, TableSeat};
@@ -15,7 +15,7 @@ fn pairs_come_in_file_order(rt: HostRuntime) -> Result<(), Fail> {
     let alloc = rt.alloc();
     let mut files = folder(alloc)?;
     files.put("i", b"one\ntwo  easy  one \n")?;
-    let mut seats = [Seat::new(TableSeat::<One>::new(alloc, quiet(alloc)?)?)];
+    let mut seats = [Seat::new(TableSeat::<Rows>::new(alloc, quiet(alloc)?)?)];
     let (status, _) = tuned(&rt, alloc, &FIVE, &mut files, &mut seats)?;
     assert_eq!(rt; status, Status::Ok);
     let wanted = [
@@ -56,7 +56,7 @@ fn pairs_come_shuffled(rt: HostRuntime) -> Result<(), Fail> {
     ];
     let mut files = folder(alloc)?;
     files.put("i", b"one\ntwo\nthree")?;
-    let mut seats = [Seat::new(TableSeat::<One>::new(alloc, quiet(alloc)?)?)];
+    let mut seats = [Seat::new(TableSeat::<Rows>::new(alloc, quiet(alloc)?)?)];
     let (status, _) = tuned(&rt, alloc, &words, &mut files, &mut seats)?;
     assert_eq!(rt; status, Status::Ok);
     let wanted = [
@@ -89,12 +89,12 @@ fn deterministic_runs_take_each_instance_once(rt: HostRuntime) -> Result<(), Fai
     ];
     let mut files = folder(alloc)?;
     files.put("i", b"one\ntwo\n")?;
-    let mut seats = [Seat::new(TableSeat::<One>::new(alloc, quiet(alloc)?)?)];
+    let mut seats = [Seat::new(TableSeat::<Rows>::new(alloc, quiet(alloc)?)?)];
     let (status, out) = tuned(&rt, alloc, &words, &mut files, &mut seats)?;
     assert_eq!(rt; status, Status::Ok);
     assert_eq!(rt;
         out.bytes(),
-        b"0 2 2.000000 x=a\nend 0 2 2.000000 x=a\n".as_slice()
+        b"0 2 8.000000 x=a\nend 0 2 8.000000 x=a\n".as_slice()
     );
     let wanted = [
         "w one 0 10.000000 2147483647 0 -x a",
@@ -153,12 +153,12 @@ fn a_usual_scenario_is_read_as_it_stands(rt: HostRuntime) -> Result<(), Fail> {
         "basic",
     ];
     let mut files = usual_files(alloc)?;
-    let mut seats = [Seat::new(TableSeat::<One>::new(alloc, quiet(alloc)?)?)];
+    let mut seats = [Seat::new(TableSeat::<Rows>::new(alloc, quiet(alloc)?)?)];
     let (status, out) = tuned(&rt, alloc, &words, &mut files, &mut seats)?;
     assert_eq!(rt; status, Status::Ok);
     assert_eq!(rt;
         out.bytes(),
-        b"0 100 100.000000 alpha=1.189 ps=0.1 rho=0.5 wp=0.03\nend 1 100 100.000000 alpha=1.189 ps=0.1 rho=0.5 wp=0.03\n".as_slice()
+        b"0 100 399.000000 alpha=1.189 ps=0.1 rho=0.5 wp=0.03\nend 1 100 399.000000 alpha=1.189 ps=0.1 rho=0.5 wp=0.03\n".as_slice()
     );
     let Some(first) = seats[0].spawner().starts().first() else {
         return Err(Fail::new("a child is started"));
@@ -174,7 +174,7 @@ fn a_usual_scenario_is_read_as_it_stands(rt: HostRuntime) -> Result<(), Fail> {
 fn a_usual_scenario_asks_for_focused_search(rt: HostRuntime) -> Result<(), Fail> {
     let alloc = rt.alloc();
     let mut files = usual_files(alloc)?;
-    let mut seats = [Seat::new(TableSeat::<One>::new(alloc, quiet(alloc)?)?)];
+    let mut seats = [Seat::new(TableSeat::<Rows>::new(alloc, quiet(alloc)?)?)];
     let words = ["-scenariofile", "saps"];
     let (status, out) = tuned(&rt, alloc, &words, &mut files, &mut seats)?;
     assert_eq!(rt; status, Status::Unbuilt);

@@ -1,25 +1,13 @@
 //! Parameter files with conditions and forbidden clauses.
+use crate::table::Rows;
 use crate::tests::{folder, quiet, tuned};
 use neighbourhood::neighbours;
-use objective::{Memory, Micros, Outcome};
-use outside::{Key, Table, TableSeat};
+use objective::Memory;
+use outside::TableSeat;
 use param_files::read_params;
 use std::alloc::Global;
 use std::test::Fail;
 use tuner::{FileKind, Seat, Status};
-
-/// Each run takes two seconds.
-struct Two;
-
-impl Table for Two {
-    ghost use Rattle.objective.specs.declared.Outcome.TheVariants.{Solved};
-
-    ghost outcome = { λ key. Solved (record { 0 = 2000000 }) };
-
-    fn outcome(_key: &Key) -> Outcome {
-        Outcome::Solved(Micros(2_000_000))
-    }
-}
 
 const WORDS: [&str; 4] = ["-scenariofile", "s", "-maxComparisons", "0"];
 
@@ -36,7 +24,7 @@ fn faults_are_named_with_their_lines(rt: HostRuntime) -> Result<(), Fail> {
         let text = format!(in alloc; "{two}{relations}")?;
         let mut files = folder(alloc)?;
         files.put("p", text.as_bytes())?;
-        let mut seats = [Seat::new(TableSeat::<Two>::new(alloc, quiet(alloc)?)?)];
+        let mut seats = [Seat::new(TableSeat::<Rows>::new(alloc, quiet(alloc)?)?)];
         let (status, out) = tuned(&rt, alloc, &WORDS, &mut files, &mut seats)?;
         assert_eq!(rt; status.code(), 3);
         assert_eq!(rt; out.bytes(), wanted.as_bytes());
@@ -58,7 +46,7 @@ fn too_many_parameters_are_refused(rt: HostRuntime) -> Result<(), Fail> {
     let alloc = rt.alloc();
     let mut files = folder(alloc)?;
     files.put("p", many_params(alloc, 257)?.as_bytes())?;
-    let mut seats = [Seat::new(TableSeat::<Two>::new(alloc, quiet(alloc)?)?)];
+    let mut seats = [Seat::new(TableSeat::<Rows>::new(alloc, quiet(alloc)?)?)];
     let (status, out) = tuned(&rt, alloc, &WORDS, &mut files, &mut seats)?;
     let Status::BadFile { kind, line, .. } = status else {
         return Err(Fail::new("the file is refused"));
@@ -78,7 +66,8 @@ fn inactive_parameters_are_not_passed_on(rt: HostRuntime) -> Result<(), Fail> {
         )?;
         let mut files = folder(alloc)?;
         files.put("p", text.as_bytes())?;
-        let mut seats = [Seat::new(TableSeat::<Two>::new(alloc, quiet(alloc)?)?)];
+        files.put("i", b"one 2222\n")?;
+        let mut seats = [Seat::new(TableSeat::<Rows>::new(alloc, quiet(alloc)?)?)];
         let (status, out) = tuned(&rt, alloc, &WORDS, &mut files, &mut seats)?;
         assert_eq!(rt; status, Status::Ok);
         let lines = format!(in alloc; "0 2 4.000000 {wanted}\nend 0 2 4.000000 {wanted}\n")?;

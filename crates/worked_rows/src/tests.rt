@@ -1,58 +1,14 @@
 //! The default settings on two pairs.
 ghost use Rattle.std.specs.Prelude.{All, IsTrue};
 
-use objective::{Memory, Micros, Outcome};
-use outside::{Key, MemoryFiles, MemorySink, Script, Table, TableSeat};
+use crate::table::Rows;
+use objective::Memory;
+use outside::{MemoryFiles, MemorySink, Script, Table, TableSeat};
 use plain_text::{Items, Text};
 use std::alloc::Global;
 use std::sync::Wait;
 use std::test::Fail;
 use tuner::{Seat, Status, tune};
-
-/// The default settings cost three seconds on the first pair and four on the second.
-struct ThreeAndFour;
-
-impl Table for ThreeAndFour {
-    ghost use Rattle.std.specs.Prelude.{◌==◌, if◌then◌else◌};
-    ghost use Rattle.objective.specs.declared.Outcome.TheVariants.{Solved};
-
-    ghost outcome = { λ key. Solved (record { 0 = if key.seed == 1 then 3000000 else 4000000 }) };
-
-    fn outcome(key: &Key) -> Outcome {
-        Outcome::Solved(Micros(if key.seed == 1 { 3_000_000 } else { 4_000_000 }))
-    }
-}
-
-/// Each run asks for the end of the tuning after a second.
-struct Aborting;
-
-impl Table for Aborting {
-    ghost use Rattle.objective.specs.declared.Outcome.TheVariants.{Abort};
-
-    ghost outcome = { λ key. Abort (record { 0 = 1000000 }) };
-
-    fn outcome(_key: &Key) -> Outcome {
-        Outcome::Abort(Micros(1_000_000))
-    }
-}
-
-/// The first pair is never solved, the second crashes after a second.
-struct Unlucky;
-
-impl Table for Unlucky {
-    ghost use Rattle.std.specs.Prelude.{◌==◌, if◌then◌else◌};
-    ghost use Rattle.objective.specs.declared.Outcome.TheVariants.{Unsolved, Crashed};
-
-    ghost outcome = { λ key. if key.seed == 1 then Unsolved else Crashed (record { 0 = 1000000 }) };
-
-    fn outcome(key: &Key) -> Outcome {
-        if key.seed == 1 {
-            Outcome::Unsolved
-        } else {
-            Outcome::Crashed(Micros(1_000_000))
-        }
-    }
-}
 
 pub(crate) const SCENARIO: &str =
     "algo = w\nparamfile = p\ninstance_file = i\ncutoff_time = 10\ncap_floor = 0.000001\napproach = basic\nN = 2\nr = 0\ns = 1\np_restart = 0\npair_order = file\n";
@@ -133,7 +89,7 @@ fn default_settings_print_one_entry(rt: HostRuntime) -> Result<(), Fail> {
     let alloc = rt.alloc();
     let (mut files, words) = (folder(alloc)?, texts(alloc, &WORDS)?);
     let (mut out, mut log) = (MemorySink::new(alloc), MemorySink::new(alloc));
-    let mut seats = [Seat::new(TableSeat::<ThreeAndFour>::new(alloc, quiet(alloc)?)?)];
+    let mut seats = [Seat::new(TableSeat::<Rows>::new(alloc, quiet(alloc)?)?)];
     let status = tune(
         &rt,
         alloc,
@@ -177,7 +133,7 @@ fn failed_children_are_named(rt: HostRuntime) -> Result<(), Fail> {
             stuck: numbers(alloc, &[])?,
         };
         let mut files = folder(alloc)?;
-        let mut seats = [Seat::new(TableSeat::<ThreeAndFour>::new(alloc, script)?)];
+        let mut seats = [Seat::new(TableSeat::<Rows>::new(alloc, script)?)];
         let (status, out) = tuned(&rt, alloc, &WORDS, &mut files, &mut seats)?;
         assert_eq!(rt; status, Status::ChildFault { seat: 0 });
         assert_eq!(rt; status.code(), 7);
@@ -197,7 +153,7 @@ fn writes_that_fail_end_the_call(rt: HostRuntime) -> Result<(), Fail> {
         let (mut out, mut log) = (MemorySink::new(alloc), MemorySink::new(alloc));
         out.fail_at(failing)?;
         out.nothing_at(empty)?;
-        let mut seats = [Seat::new(TableSeat::<ThreeAndFour>::new(alloc, quiet(alloc)?)?)];
+        let mut seats = [Seat::new(TableSeat::<Rows>::new(alloc, quiet(alloc)?)?)];
         let status = tune(
             &rt,
             alloc,
@@ -215,51 +171,35 @@ fn writes_that_fail_end_the_call(rt: HostRuntime) -> Result<(), Fail> {
 }
 
 #[test]
-fn no_seat_an_abort_and_unsolved_pairs(rt: HostRuntime) -> Result<(), Fail> {
+fn no_seat_is_too_few(rt: HostRuntime) -> Result<(), Fail> {
     let alloc = rt.alloc();
-    let (mut files, words) = (folder(alloc)?, texts(alloc, &WORDS)?);
-    let (mut out, mut log) = (MemorySink::new(alloc), MemorySink::new(alloc));
-    let mut none: [Seat<TableSeat<ThreeAndFour>>; 0] = [];
-    let status = tune(
-        &rt,
-        alloc,
-        words.as_slice(),
-        &mut files,
-        &mut out,
-        &mut log,
-        &mut none,
-    );
+    let mut files = folder(alloc)?;
+    let mut none: [Seat<TableSeat<Rows>>; 0] = [];
+    let (status, out) = tuned(&rt, alloc, &WORDS, &mut files, &mut none)?;
     assert_eq!(rt; status, Status::TooFewSeats { asked: 1, given: 0 });
     assert_eq!(rt; out.bytes(), b"seats 1 0\n".as_slice());
-    let mut out = MemorySink::new(alloc);
-    let mut seats = [Seat::new(TableSeat::<Aborting>::new(alloc, quiet(alloc)?)?)];
-    let status = tune(
-        &rt,
-        alloc,
-        words.as_slice(),
-        &mut files,
-        &mut out,
-        &mut log,
-        &mut seats,
-    );
-    assert_eq!(rt; status, Status::Unbuilt);
-    assert_eq!(rt; out.bytes(), b"unbuilt\n".as_slice());
-    let mut out = MemorySink::new(alloc);
-    let mut seats = [Seat::new(TableSeat::<Unlucky>::new(alloc, quiet(alloc)?)?)];
-    let status = tune(
-        &rt,
-        alloc,
-        words.as_slice(),
-        &mut files,
-        &mut out,
-        &mut log,
-        &mut seats,
-    );
-    assert_eq!(rt; status, Status::Ok);
-    assert_eq!(rt;
-        out.bytes(),
-        b"0 2 20.000000 x=a\nend 0 2 20.000000 x=a\n".as_slice()
-    );
+    Ok(())
+}
+
+#[test]
+fn an_abort_ends_the_call_and_unsolved_pairs_cost_the_cutoff(rt: HostRuntime) -> Result<(), Fail> {
+    let alloc = rt.alloc();
+    // The second: the first pair isn't solved, and the child of the second crashes.
+    for (instances, status, wanted) in [
+        ("one xxxx\n", Status::Unbuilt, "unbuilt\n"),
+        (
+            "one uc\n",
+            Status::Ok,
+            "0 2 20.000000 x=a\nend 0 2 20.000000 x=a\n",
+        ),
+    ] {
+        let mut files = folder(alloc)?;
+        files.put("i", instances.as_bytes())?;
+        let mut seats = [Seat::new(TableSeat::<Rows>::new(alloc, quiet(alloc)?)?)];
+        let (found, out) = tuned(&rt, alloc, &WORDS, &mut files, &mut seats)?;
+        assert_eq!(rt; found, status);
+        assert_eq!(rt; out.bytes(), wanted.as_bytes());
+    }
     Ok(())
 }
 
@@ -282,7 +222,7 @@ fn refused_memory_gives_no_other_answer(rt: HostRuntime) {
     else {
         return;
     };
-    let Ok(seat) = TableSeat::<ThreeAndFour>::new(alloc, script) else {
+    let Ok(seat) = TableSeat::<Rows>::new(alloc, script) else {
         return;
     };
     let mut seats = [Seat::new(seat)];
