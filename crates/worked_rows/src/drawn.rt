@@ -3,11 +3,11 @@ ghost use Rattle.std.specs.Prelude.{◌≡◌};
 ghost use Rattle.worked_rows.specs.Rows.{by_heuristic as outcome_by_heuristic};
 
 use crate::table::has;
-use crate::tests::{quiet, tuned};
+use crate::tests::ran;
 use objective::{Micros, Outcome};
-use outside::{Key, MemoryFiles, Table, TableSeat};
+use outside::{Key, MemoryFiles, Table};
 use std::test::Fail;
-use tuner::{Seat, Status};
+use tuner::Status;
 
 /// The outcome of the example's wrapper.
 fn by_heuristic(key: &Key) -> Outcome
@@ -51,11 +51,10 @@ fn ten_comparisons_find_the_random_heuristic(rt: HostRuntime) -> Result<(), Fail
         b"heuristic {first, random} [first]\nrestarts {0, 10, 100} [10]\n",
     )?;
     files.put("i", b"easy\nhard\n")?;
-    let mut seats = [Seat::new(TableSeat::<Example>::new(alloc, quiet(alloc)?)?)];
-    let (status, out) = tuned(&rt, alloc, &words, &mut files, &mut seats)?;
-    assert_eq!(rt; status, Status::Ok);
+    let ran = ran::<_, Example>(&rt, alloc, &words, &mut files)?;
+    assert_eq!(rt; ran.status, Status::Ok);
     assert_eq!(rt;
-        out.bytes(),
+        ran.printed.as_slice(),
         b"0 3 6.500000 heuristic=first restarts=10\n8 3 5.000000 heuristic=random restarts=100\nend 10 3 5.000000 heuristic=random restarts=100\n".as_slice()
     );
     Ok(())

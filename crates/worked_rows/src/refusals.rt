@@ -1,29 +1,12 @@
 //! Words, files and seats that are refused, by the line that is printed.
 use crate::table::Rows;
-use crate::tests::{SCENARIO, folder, quiet, tuned};
-use objective::Memory;
-use outside::{MemoryFiles, MemorySink, TableSeat};
-use std::alloc::Global;
-use std::sync::Wait;
+use crate::tests::{SCENARIO, folder, ran};
+use outside::MemoryFiles;
 use std::test::Fail;
-use tuner::{Seat, Status};
+use tuner::Status;
 
 /// The words of a tuning that ends with the opening evaluation.
 const WORDS: [&str; 4] = ["-scenariofile", "s", "-maxComparisons", "0"];
-
-/// How a tuning with two seats ends, and what it prints.
-fn with_two_seats<R: Wait>(
-    rt: &R,
-    alloc: Global,
-    words: &[&str],
-    files: &mut MemoryFiles,
-) -> Result<(Status, MemorySink), Memory> {
-    let mut seats = [
-        Seat::new(TableSeat::<Rows>::new(alloc, quiet(alloc)?)?),
-        Seat::new(TableSeat::<Rows>::new(alloc, quiet(alloc)?)?),
-    ];
-    tuned(rt, alloc, words, files, &mut seats)
-}
 
 #[test]
 fn files_that_fail_or_have_a_fault_are_named(rt: HostRuntime) -> Result<(), Fail> {
@@ -57,9 +40,13 @@ fn files_that_fail_or_have_a_fault_are_named(rt: HostRuntime) -> Result<(), Fail
         let mut files = folder(alloc)?;
         files.put(name, contents.as_bytes())?;
         files.fail_at(failing)?;
-        let (status, out) = with_two_seats(&rt, alloc, &WORDS, &mut files)?;
-        assert_eq!(rt; status.code(), code, "{name}: {contents}");
-        assert_eq!(rt; out.bytes(), wanted.as_bytes(), "{name}: {contents}");
+        let ran = ran::<_, Rows>(&rt, alloc, &WORDS, &mut files)?;
+        assert_eq!(rt; ran.status.code(), code, "{name}: {contents}");
+        assert_eq!(rt;
+            ran.printed.as_slice(),
+            wanted.as_bytes(),
+            "{name}: {contents}"
+        );
     }
     Ok(())
 }
@@ -74,15 +61,15 @@ fn bytes_that_are_no_text_and_a_missing_file(rt: HostRuntime) -> Result<(), Fail
     ] {
         let mut files = folder(alloc)?;
         files.put(name, bytes)?;
-        let (status, out) = with_two_seats(&rt, alloc, &WORDS, &mut files)?;
-        assert_eq!(rt; status.code(), 3);
-        assert_eq!(rt; out.bytes(), wanted.as_bytes());
+        let ran = ran::<_, Rows>(&rt, alloc, &WORDS, &mut files)?;
+        assert_eq!(rt; ran.status.code(), 3);
+        assert_eq!(rt; ran.printed.as_slice(), wanted.as_bytes());
     }
     let mut files = MemoryFiles::new(alloc);
     files.put("s", SCENARIO.as_bytes())?;
-    let (status, out) = with_two_seats(&rt, alloc, &WORDS, &mut files)?;
-    assert_eq!(rt; status.code(), 4);
-    assert_eq!(rt; out.bytes(), b"readfault p\n".as_slice());
+    let ran = ran::<_, Rows>(&rt, alloc, &WORDS, &mut files)?;
+    assert_eq!(rt; ran.status.code(), 4);
+    assert_eq!(rt; ran.printed.as_slice(), b"readfault p\n".as_slice());
     Ok(())
 }
 
@@ -135,9 +122,9 @@ fn words_and_seats_are_refused_in_their_order(rt: HostRuntime) -> Result<(), Fai
         ),
     ] {
         let mut files = folder(alloc)?;
-        let (status, out) = with_two_seats(&rt, alloc, words, &mut files)?;
-        assert_eq!(rt; out.bytes(), wanted.as_bytes());
-        assert_eq!(rt; status.code(), code, "{wanted}");
+        let ran = ran::<_, Rows>(&rt, alloc, words, &mut files)?;
+        assert_eq!(rt; ran.printed.as_slice(), wanted.as_bytes());
+        assert_eq!(rt; ran.status.code(), code, "{wanted}");
     }
     Ok(())
 }
@@ -153,18 +140,12 @@ fn the_first_of_two_seats_runs_all(rt: HostRuntime) -> Result<(), Fail> {
         "-workers",
         "2",
     ];
-    let mut files = folder(alloc)?;
-    let mut seats = [
-        Seat::new(TableSeat::<Rows>::new(alloc, quiet(alloc)?)?),
-        Seat::new(TableSeat::<Rows>::new(alloc, quiet(alloc)?)?),
-    ];
-    let (status, out) = tuned(&rt, alloc, &words, &mut files, &mut seats)?;
-    assert_eq!(rt; status, Status::Ok);
+    let ran = ran::<_, Rows>(&rt, alloc, &words, &mut folder(alloc)?)?;
+    assert_eq!(rt; ran.status, Status::Ok);
     assert_eq!(rt;
-        out.bytes(),
+        ran.printed.as_slice(),
         b"0 2 7.000000 x=a\nend 0 2 7.000000 x=a\n".as_slice()
     );
-    assert_eq!(rt; seats[0].spawner().starts().len(), 2);
-    assert!(rt; seats[1].spawner().starts().is_empty());
+    assert_eq!(rt; (ran.starts.len(), ran.others), (2, 0));
     Ok(())
 }

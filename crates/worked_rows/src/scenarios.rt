@@ -1,11 +1,11 @@
 //! Which pairs a scenario's words and files ask for, and a usual scenario.
 use crate::table::Rows;
-use crate::tests::{folder, quiet, spoken, tuned};
+use crate::tests::{folder, ran};
 use objective::Memory;
-use outside::{MemoryFiles, TableSeat};
+use outside::MemoryFiles;
 use std::alloc::Global;
 use std::test::Fail;
-use tuner::{Seat, Status};
+use tuner::Status;
 
 /// The words for five pairs of each comparison.
 const FIVE: [&str; 6] = ["-scenariofile", "s", "-maxComparisons", "0", "-N", "5"];
@@ -15,9 +15,8 @@ fn pairs_come_in_file_order(rt: HostRuntime) -> Result<(), Fail> {
     let alloc = rt.alloc();
     let mut files = folder(alloc)?;
     files.put("i", b"one\ntwo  easy  one \n")?;
-    let mut seats = [Seat::new(TableSeat::<Rows>::new(alloc, quiet(alloc)?)?)];
-    let (status, _) = tuned(&rt, alloc, &FIVE, &mut files, &mut seats)?;
-    assert_eq!(rt; status, Status::Ok);
+    let ran = ran::<_, Rows>(&rt, alloc, &FIVE, &mut files)?;
+    assert_eq!(rt; ran.status, Status::Ok);
     let wanted = [
         "w one 0 10.000000 2147483647 1 -x a",
         "w two easy  one 10.000000 2147483647 2 -x a",
@@ -25,11 +24,9 @@ fn pairs_come_in_file_order(rt: HostRuntime) -> Result<(), Fail> {
         "w two easy  one 10.000000 2147483647 4 -x a",
         "w one 0 10.000000 2147483647 5 -x a",
     ];
-    let starts = seats[0].spawner().starts();
-    assert_eq!(rt; starts.len(), 5);
-    for (start, wanted) in starts.iter().zip(wanted) {
-        assert_eq!(rt; start.as_slice().len(), 8);
-        assert_eq!(rt; spoken(alloc, start.as_slice())?.as_str(), wanted);
+    assert_eq!(rt; ran.starts.len(), 5);
+    for (start, wanted) in ran.starts.iter().zip(wanted) {
+        assert_eq!(rt; start.as_str(), wanted);
     }
     Ok(())
 }
@@ -56,9 +53,8 @@ fn pairs_come_shuffled(rt: HostRuntime) -> Result<(), Fail> {
     ];
     let mut files = folder(alloc)?;
     files.put("i", b"one\ntwo\nthree")?;
-    let mut seats = [Seat::new(TableSeat::<Rows>::new(alloc, quiet(alloc)?)?)];
-    let (status, _) = tuned(&rt, alloc, &words, &mut files, &mut seats)?;
-    assert_eq!(rt; status, Status::Ok);
+    let ran = ran::<_, Rows>(&rt, alloc, &words, &mut files)?;
+    assert_eq!(rt; ran.status, Status::Ok);
     let wanted = [
         "w one 0 10.000000 2147483647 1944288081 -x a",
         "w three 0 10.000000 2147483647 1734755188 -x a",
@@ -66,10 +62,9 @@ fn pairs_come_shuffled(rt: HostRuntime) -> Result<(), Fail> {
         "w two 0 10.000000 2147483647 730483650 -x a",
         "w one 0 10.000000 2147483647 1967553517 -x a",
     ];
-    let starts = seats[0].spawner().starts();
-    assert_eq!(rt; starts.len(), 5);
-    for (start, wanted) in starts.iter().zip(wanted) {
-        assert_eq!(rt; spoken(alloc, start.as_slice())?.as_str(), wanted);
+    assert_eq!(rt; ran.starts.len(), 5);
+    for (start, wanted) in ran.starts.iter().zip(wanted) {
+        assert_eq!(rt; start.as_str(), wanted);
     }
     Ok(())
 }
@@ -89,19 +84,19 @@ fn deterministic_runs_take_each_instance_once(rt: HostRuntime) -> Result<(), Fai
     ];
     let mut files = folder(alloc)?;
     files.put("i", b"one\ntwo\n")?;
-    let mut seats = [Seat::new(TableSeat::<Rows>::new(alloc, quiet(alloc)?)?)];
-    let (status, out) = tuned(&rt, alloc, &words, &mut files, &mut seats)?;
-    assert_eq!(rt; status, Status::Ok);
+    let ran = ran::<_, Rows>(&rt, alloc, &words, &mut files)?;
+    assert_eq!(rt; ran.status, Status::Ok);
     assert_eq!(rt;
-        out.bytes(),
+        ran.printed.as_slice(),
         b"0 2 8.000000 x=a\nend 0 2 8.000000 x=a\n".as_slice()
     );
     let wanted = [
         "w one 0 10.000000 2147483647 0 -x a",
         "w two 0 10.000000 2147483647 0 -x a",
     ];
-    for (start, wanted) in seats[0].spawner().starts().iter().zip(wanted) {
-        assert_eq!(rt; spoken(alloc, start.as_slice())?.as_str(), wanted);
+    assert_eq!(rt; ran.starts.len(), 2);
+    for (start, wanted) in ran.starts.iter().zip(wanted) {
+        assert_eq!(rt; start.as_str(), wanted);
     }
     Ok(())
 }
@@ -153,18 +148,17 @@ fn a_usual_scenario_is_read_as_it_stands(rt: HostRuntime) -> Result<(), Fail> {
         "basic",
     ];
     let mut files = usual_files(alloc)?;
-    let mut seats = [Seat::new(TableSeat::<Rows>::new(alloc, quiet(alloc)?)?)];
-    let (status, out) = tuned(&rt, alloc, &words, &mut files, &mut seats)?;
-    assert_eq!(rt; status, Status::Ok);
+    let ran = ran::<_, Rows>(&rt, alloc, &words, &mut files)?;
+    assert_eq!(rt; ran.status, Status::Ok);
     assert_eq!(rt;
-        out.bytes(),
+        ran.printed.as_slice(),
         b"0 100 399.000000 alpha=1.189 ps=0.1 rho=0.5 wp=0.03\nend 1 100 399.000000 alpha=1.189 ps=0.1 rho=0.5 wp=0.03\n".as_slice()
     );
-    let Some(first) = seats[0].spawner().starts().first() else {
+    let Some(first) = ran.starts.first() else {
         return Err(Fail::new("a child is started"));
     };
     assert_eq!(rt;
-        spoken(alloc, first.as_slice())?.as_str(),
+        first.as_str(),
         "ruby saps_wrapper.rb cnf/a.cnf 0 5.000000 2147483647 1 -alpha 1.189 -ps 0.1 -rho 0.5 -wp 0.03"
     );
     Ok(())
@@ -174,10 +168,9 @@ fn a_usual_scenario_is_read_as_it_stands(rt: HostRuntime) -> Result<(), Fail> {
 fn a_usual_scenario_asks_for_focused_search(rt: HostRuntime) -> Result<(), Fail> {
     let alloc = rt.alloc();
     let mut files = usual_files(alloc)?;
-    let mut seats = [Seat::new(TableSeat::<Rows>::new(alloc, quiet(alloc)?)?)];
     let words = ["-scenariofile", "saps"];
-    let (status, out) = tuned(&rt, alloc, &words, &mut files, &mut seats)?;
-    assert_eq!(rt; status, Status::Unbuilt);
-    assert_eq!(rt; out.bytes(), b"unbuilt\n".as_slice());
+    let ran = ran::<_, Rows>(&rt, alloc, &words, &mut files)?;
+    assert_eq!(rt; ran.status, Status::Unbuilt);
+    assert_eq!(rt; ran.printed.as_slice(), b"unbuilt\n".as_slice());
     Ok(())
 }

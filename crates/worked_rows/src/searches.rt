@@ -1,30 +1,26 @@
 //! Searches of the values a and b on two pairs. The values are those of the worked rows of
 //! BasicILS among the definitions of the procedure.
 use crate::table::Rows;
-use crate::tests::{SCENARIO, folder, quiet, spoken, tuned};
+use crate::tests::{SCENARIO, Tuning, folder, ran};
 use objective::Memory;
-use outside::{MemorySink, TableSeat};
 use std::alloc::Global;
 use std::sync::Wait;
 use std::test::Fail;
-use tuner::{Seat, Status};
+use tuner::Status;
 
-/// How a tuning over children with these answers, of this scenario and with this budget,
-/// ends, what it prints, and how many children it starts.
+/// A tuning over children with these answers, of this scenario and with this budget.
 fn searched<R: Wait>(
     rt: &R,
     alloc: Global,
     answers: &str,
     scenario: &str,
     budget: &str,
-) -> Result<(Status, MemorySink, usize), Memory> {
+) -> Result<Tuning, Memory> {
     let words = ["-scenariofile", "s", "-maxComparisons", budget];
     let mut files = folder(alloc)?;
     files.put("s", scenario.as_bytes())?;
     files.put("i", format!(in alloc; "one {answers}\n")?.as_bytes())?;
-    let mut seats = [Seat::new(TableSeat::<Rows>::new(alloc, quiet(alloc)?)?)];
-    let (status, out) = tuned(rt, alloc, &words, &mut files, &mut seats)?;
-    Ok((status, out, seats[0].spawner().starts().len()))
+    ran::<_, Rows>(rt, alloc, &words, &mut files)
 }
 
 /// The first seven lines of a scenario.
@@ -41,12 +37,12 @@ fn is_printed<R: Wait>(
 ) -> Result<bool, Memory> {
     for (budget, (entries, last)) in rows.iter().enumerate() {
         let words = format!(in alloc; "{budget}")?;
-        let (status, out, starts) = searched(rt, alloc, answers, SCENARIO, words.as_str())?;
+        let ran = searched(rt, alloc, answers, SCENARIO, words.as_str())?;
         let printed = format!(in alloc; "{entries}end {budget} {last}\n")?;
-        if status != Status::Ok || out.bytes() != printed.as_bytes() {
+        if ran.status != Status::Ok || ran.printed.as_slice() != printed.as_bytes() {
             return Ok(false);
         }
-        if starts != 2 + 4 * budget {
+        if ran.starts.len() != 2 + 4 * budget {
             return Ok(false);
         }
     }
@@ -81,11 +77,8 @@ fn worse_settings_and_ties_leave_the_incumbent(rt: HostRuntime) -> Result<(), Fa
 fn each_evaluation_is_run_in_full(rt: HostRuntime) -> Result<(), Fail> {
     let alloc = rt.alloc();
     let words = ["-scenariofile", "s", "-maxComparisons", "1"];
-    let mut files = folder(alloc)?;
-    let mut seats = [Seat::new(TableSeat::<Rows>::new(alloc, quiet(alloc)?)?)];
-    let (status, _) = tuned(&rt, alloc, &words, &mut files, &mut seats)?;
-    assert_eq!(rt; status, Status::Ok);
-    let starts = seats[0].spawner().starts();
+    let ran = ran::<_, Rows>(&rt, alloc, &words, &mut folder(alloc)?)?;
+    assert_eq!(rt; ran.status, Status::Ok);
     let runs = [
         ("1", "a"),
         ("2", "a"),
@@ -94,20 +87,20 @@ fn each_evaluation_is_run_in_full(rt: HostRuntime) -> Result<(), Fail> {
         ("1", "b"),
         ("2", "b"),
     ];
-    assert_eq!(rt; starts.len(), 6);
-    for ((seed, value), start) in runs.iter().zip(starts) {
+    assert_eq!(rt; ran.starts.len(), 6);
+    for ((seed, value), start) in runs.iter().zip(&ran.starts) {
         let wanted = format!(in alloc; "w one 0 10.000000 2147483647 {seed} -x {value}")?;
-        assert_eq!(rt; spoken(alloc, start.as_slice())?.as_str(), wanted.as_str());
+        assert_eq!(rt; start.as_str(), wanted.as_str());
     }
     Ok(())
 }
 
 #[test]
 fn an_abort_in_a_comparison_ends_the_search(rt: HostRuntime) -> Result<(), Fail> {
-    let (status, out, starts) = searched(&rt, rt.alloc(), "34x1", SCENARIO, "1")?;
-    assert_eq!(rt; status, Status::Unbuilt);
-    assert_eq!(rt; out.bytes(), b"unbuilt\n".as_slice());
-    assert_eq!(rt; starts, 5);
+    let ran = searched(&rt, rt.alloc(), "34x1", SCENARIO, "1")?;
+    assert_eq!(rt; ran.status, Status::Unbuilt);
+    assert_eq!(rt; ran.printed.as_slice(), b"unbuilt\n".as_slice());
+    assert_eq!(rt; ran.starts.len(), 5);
     Ok(())
 }
 
@@ -115,10 +108,10 @@ fn an_abort_in_a_comparison_ends_the_search(rt: HostRuntime) -> Result<(), Fail>
 fn a_pair_that_is_not_solved_costs_ten_cutoffs(rt: HostRuntime) -> Result<(), Fail> {
     let alloc = rt.alloc();
     let scenario = format!(in alloc; "{SCENARIO}overall_obj = mean10\n")?;
-    let (status, out, _) = searched(&rt, alloc, "u19u", scenario.as_str(), "1")?;
-    assert_eq!(rt; status, Status::Ok);
+    let ran = searched(&rt, alloc, "u19u", scenario.as_str(), "1")?;
+    assert_eq!(rt; ran.status, Status::Ok);
     assert_eq!(rt;
-        out.bytes(),
+        ran.printed.as_slice(),
         b"0 2 101.000000 x=a\nend 1 2 101.000000 x=a\n".as_slice()
     );
     Ok(())
@@ -141,8 +134,8 @@ fn numbers_of_the_search_have_their_limits(rt: HostRuntime) -> Result<(), Fail> 
         ("r = 0\ns = 1\np_restart = 0\n", "", 2),
     ] {
         let scenario = format!(in alloc; "{HEAD}{numbers}pair_order = file\n")?;
-        let (status, _, _) = searched(&rt, alloc, "3424", scenario.as_str(), budget)?;
-        assert_eq!(rt; status.code(), code, "{numbers}: {budget}");
+        let ran = searched(&rt, alloc, "3424", scenario.as_str(), budget)?;
+        assert_eq!(rt; ran.status.code(), code, "{numbers}: {budget}");
     }
     Ok(())
 }

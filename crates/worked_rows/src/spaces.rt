@@ -1,13 +1,12 @@
 //! Parameter files with conditions and forbidden clauses.
 use crate::table::Rows;
-use crate::tests::{folder, quiet, tuned};
+use crate::tests::{folder, ran};
 use neighbourhood::neighbours;
 use objective::Memory;
-use outside::TableSeat;
 use param_files::read_params;
 use std::alloc::Global;
 use std::test::Fail;
-use tuner::{FileKind, Seat, Status};
+use tuner::{FileKind, Status};
 
 const WORDS: [&str; 4] = ["-scenariofile", "s", "-maxComparisons", "0"];
 
@@ -24,10 +23,9 @@ fn faults_are_named_with_their_lines(rt: HostRuntime) -> Result<(), Fail> {
         let text = format!(in alloc; "{two}{relations}")?;
         let mut files = folder(alloc)?;
         files.put("p", text.as_bytes())?;
-        let mut seats = [Seat::new(TableSeat::<Rows>::new(alloc, quiet(alloc)?)?)];
-        let (status, out) = tuned(&rt, alloc, &WORDS, &mut files, &mut seats)?;
-        assert_eq!(rt; status.code(), 3);
-        assert_eq!(rt; out.bytes(), wanted.as_bytes());
+        let ran = ran::<_, Rows>(&rt, alloc, &WORDS, &mut files)?;
+        assert_eq!(rt; ran.status.code(), 3);
+        assert_eq!(rt; ran.printed.as_slice(), wanted.as_bytes());
     }
     Ok(())
 }
@@ -46,13 +44,15 @@ fn too_many_parameters_are_refused(rt: HostRuntime) -> Result<(), Fail> {
     let alloc = rt.alloc();
     let mut files = folder(alloc)?;
     files.put("p", many_params(alloc, 257)?.as_bytes())?;
-    let mut seats = [Seat::new(TableSeat::<Rows>::new(alloc, quiet(alloc)?)?)];
-    let (status, out) = tuned(&rt, alloc, &WORDS, &mut files, &mut seats)?;
-    let Status::BadFile { kind, line, .. } = status else {
+    let ran = ran::<_, Rows>(&rt, alloc, &WORDS, &mut files)?;
+    let Status::BadFile { kind, line, .. } = ran.status else {
         return Err(Fail::new("the file is refused"));
     };
     assert_eq!(rt; (kind, line), (FileKind::Params, 257));
-    assert_eq!(rt; out.bytes(), b"badfile p 257 TooMany\n".as_slice());
+    assert_eq!(rt;
+        ran.printed.as_slice(),
+        b"badfile p 257 TooMany\n".as_slice()
+    );
     Ok(())
 }
 
@@ -67,13 +67,13 @@ fn inactive_parameters_are_not_passed_on(rt: HostRuntime) -> Result<(), Fail> {
         let mut files = folder(alloc)?;
         files.put("p", text.as_bytes())?;
         files.put("i", b"one 2222\n")?;
-        let mut seats = [Seat::new(TableSeat::<Rows>::new(alloc, quiet(alloc)?)?)];
-        let (status, out) = tuned(&rt, alloc, &WORDS, &mut files, &mut seats)?;
-        assert_eq!(rt; status, Status::Ok);
+        let ran = ran::<_, Rows>(&rt, alloc, &WORDS, &mut files)?;
+        assert_eq!(rt; ran.status, Status::Ok);
         let lines = format!(in alloc; "0 2 4.000000 {wanted}\nend 0 2 4.000000 {wanted}\n")?;
-        assert_eq!(rt; out.bytes(), lines.as_bytes());
-        for start in seats[0].spawner().starts() {
-            assert_eq!(rt; start.as_slice().len(), words);
+        assert_eq!(rt; ran.printed.as_slice(), lines.as_bytes());
+        for start in &ran.starts {
+            let start_words = start.split(' ').count();
+            assert_eq!(rt; start_words, words);
         }
     }
     Ok(())

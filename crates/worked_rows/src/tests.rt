@@ -16,7 +16,7 @@ pub(crate) const SCENARIO: &str =
 const WORDS: [&str; 4] = ["-scenariofile", "s", "-maxComparisons", "0"];
 
 /// The words as texts.
-pub(crate) fn texts(alloc: Global, words: &[&str]) -> Result<Vec<Text>, Memory> {
+fn texts(alloc: Global, words: &[&str]) -> Result<Vec<Text>, Memory> {
     let mut texts = Vec::new(alloc);
     for word in words {
         texts.push(Text::of(alloc, word)?)?;
@@ -39,7 +39,7 @@ fn numbers(alloc: Global, numbers: &[u32]) -> Result<Items<u32>, Memory> {
 }
 
 /// A script without faults, under which the first two children are looked at more than once.
-pub(crate) fn quiet(alloc: Global) -> Result<Script, Memory> {
+fn quiet(alloc: Global) -> Result<Script, Memory> {
     Ok(Script {
         pending: numbers(alloc, &[3, 1])?,
         bad_starts: numbers(alloc, &[])?,
@@ -49,7 +49,7 @@ pub(crate) fn quiet(alloc: Global) -> Result<Script, Memory> {
 }
 
 /// How a tuning by these words over these files and seats ends, and what it prints.
-pub(crate) fn tuned<R: Wait, T: Table + Send>(
+fn tuned<R: Wait, T: Table + Send>(
     rt: &R,
     alloc: Global,
     words: &[&str],
@@ -73,7 +73,7 @@ pub(crate) fn tuned<R: Wait, T: Table + Send>(
 }
 
 /// The words of a start, parted by spaces.
-pub(crate) fn spoken(alloc: Global, start: &[Text]) -> Result<String, Memory> {
+fn spoken(alloc: Global, start: &[Text]) -> Result<String, Memory> {
     let mut line = String::new(alloc);
     for word in start {
         if !line.is_empty() {
@@ -84,36 +84,65 @@ pub(crate) fn spoken(alloc: Global, start: &[Text]) -> Result<String, Memory> {
     Ok(line)
 }
 
+/// The words of each start of a seat.
+fn all_spoken<T: Table>(alloc: Global, seat: &TableSeat<T>) -> Result<Vec<String>, Memory> {
+    let mut lines = Vec::new(alloc);
+    for start in seat.starts() {
+        lines.push(spoken(alloc, start.as_slice())?)?;
+    }
+    Ok(lines)
+}
+
+/// What a tuning with two seats came to.
+#[derive(Drop)]
+pub(crate) struct Tuning {
+    /// How it ended.
+    pub status: Status,
+    /// What it printed.
+    pub printed: Vec<u8>,
+    /// The words of each start of the first seat.
+    pub starts: Vec<String>,
+    /// How many children the second seat started.
+    pub others: usize,
+}
+
+/// Runs a tuning by these words over these files, with two seats.
+pub(crate) fn ran<R: Wait, T: Table + Send>(
+    rt: &R,
+    alloc: Global,
+    words: &[&str],
+    files: &mut MemoryFiles,
+) -> Result<Tuning, Memory> {
+    let mut seats = [
+        Seat::new(TableSeat::<T>::new(alloc, quiet(alloc)?)?),
+        Seat::new(TableSeat::<T>::new(alloc, quiet(alloc)?)?),
+    ];
+    let (status, out) = tuned(rt, alloc, words, files, &mut seats)?;
+    Ok(Tuning {
+        status,
+        printed: Vec::from_slice(alloc, out.bytes())?,
+        starts: all_spoken(alloc, seats[0].spawner())?,
+        others: seats[1].spawner().starts().len(),
+    })
+}
+
 #[test]
 fn default_settings_print_one_entry(rt: HostRuntime) -> Result<(), Fail> {
     let alloc = rt.alloc();
-    let (mut files, words) = (folder(alloc)?, texts(alloc, &WORDS)?);
-    let (mut out, mut log) = (MemorySink::new(alloc), MemorySink::new(alloc));
-    let mut seats = [Seat::new(TableSeat::<Rows>::new(alloc, quiet(alloc)?)?)];
-    let status = tune(
-        &rt,
-        alloc,
-        words.as_slice(),
-        &mut files,
-        &mut out,
-        &mut log,
-        &mut seats,
-    );
-    assert_eq!(rt; status, Status::Ok);
-    assert_eq!(rt; status.code(), 0);
+    let ran = ran::<_, Rows>(&rt, alloc, &WORDS, &mut folder(alloc)?)?;
+    assert_eq!(rt; ran.status, Status::Ok);
+    assert_eq!(rt; ran.status.code(), 0);
     assert_eq!(rt;
-        out.bytes(),
+        ran.printed.as_slice(),
         b"0 2 7.000000 x=a\nend 0 2 7.000000 x=a\n".as_slice()
     );
-    assert!(rt; log.bytes().is_empty());
     let wanted = [
         "w one 0 10.000000 2147483647 1 -x a",
         "w one 0 10.000000 2147483647 2 -x a",
     ];
-    let starts = seats[0].spawner().starts();
-    assert_eq!(rt; starts.len(), 2);
-    for (start, wanted) in starts.iter().zip(wanted) {
-        assert_eq!(rt; spoken(alloc, start.as_slice())?.as_str(), wanted);
+    assert_eq!(rt; ran.starts.len(), 2);
+    for (start, wanted) in ran.starts.iter().zip(wanted) {
+        assert_eq!(rt; start.as_str(), wanted);
     }
     Ok(())
 }
@@ -195,10 +224,9 @@ fn an_abort_ends_the_call_and_unsolved_pairs_cost_the_cutoff(rt: HostRuntime) ->
     ] {
         let mut files = folder(alloc)?;
         files.put("i", instances.as_bytes())?;
-        let mut seats = [Seat::new(TableSeat::<Rows>::new(alloc, quiet(alloc)?)?)];
-        let (found, out) = tuned(&rt, alloc, &WORDS, &mut files, &mut seats)?;
-        assert_eq!(rt; found, status);
-        assert_eq!(rt; out.bytes(), wanted.as_bytes());
+        let ran = ran::<_, Rows>(&rt, alloc, &WORDS, &mut files)?;
+        assert_eq!(rt; ran.status, status);
+        assert_eq!(rt; ran.printed.as_slice(), wanted.as_bytes());
     }
     Ok(())
 }
