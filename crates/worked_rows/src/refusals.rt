@@ -146,6 +146,7 @@ fn the_first_of_two_seats_runs_all(rt: HostRuntime) -> Result<(), Fail> {
         ran.printed.as_slice(),
         b"0 2 7.000000 x=a\nend 0 2 7.000000 x=a\n".as_slice()
     );
-    assert_eq!(rt; (ran.starts.len(), ran.others), (2, 0));
+    assert_eq!(rt; ran.starts.len(), 2);
+    assert_eq!(rt; ran.others, 0);
     Ok(())
 }
