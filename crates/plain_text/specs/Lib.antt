@@ -11,3 +11,4 @@ pub mod LinePlaces
 pub mod LineTexts
 pub mod Trimming
 pub mod Results
+pub mod Texts

@@ -9,6 +9,7 @@ mod parts;
 #[cfg(test)]
 mod tests;
 mod text;
+mod texts;
 mod times;
 mod tokenizer;
 mod trimming;
@@ -20,6 +21,7 @@ pub use decimals::{push_seconds, read_count, seconds_text};
 pub use items::Items;
 pub use parts::pieces;
 pub use text::Text;
+pub use texts::{has_text, place_of, texts_differ};
 pub use times::{TimeFault, read_micros};
 pub use tokenizer::{Token, token_texts, tokens};
 pub use trimming::{after_word, end_trimmed, first_word, front_trimmed, trimmed};
