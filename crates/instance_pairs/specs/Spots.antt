@@ -7,7 +7,7 @@ use Rattle.std.proofs.lemmas.List.FromFn.{length-map-range_with_len, get_or-map-
 use Rattle.scenario_files.specs.declared.draft.PairOrder.{PairOrder}
 use Rattle.scenario_files.specs.declared.draft.PairOrder.TheVariants.{Shuffled, File}
 use Rattle.seeded_order.specs.Draws.{word_of, order_of}
-use Rattle.seeded_order.specs.Orders.{length-order_of, All-order_of}
+use Rattle.seeded_order.proofs.Orders.{length-order_of, All-order_of}
 use Rattle.instance_pairs.specs.declared.spots.Spot.{Spot}
 use Rattle.instance_pairs.specs.Pairs.{round_of, position_of, stream_of, number_at, seed_at, spot_at, spots_to, AreSpots}
 

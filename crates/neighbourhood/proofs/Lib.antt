@@ -1,2 +1,4 @@
-pub mod Counts
-pub mod Found
+mod Exchanges
+mod NeighbourCounts
+mod ParamCounts
+pub mod Soundness

@@ -1,4 +1,2 @@
 pub mod Neighbours
-pub mod Soundness
-pub mod Few
-pub mod Example
+pub mod Examples

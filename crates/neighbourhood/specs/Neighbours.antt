@@ -10,12 +10,12 @@ abbrev pub other_values : List Param → List ℕ → ℕ → List ℕ
 other_values params θ p = filter (λ v. not (v == slice_index θ p)) (range_with_len 0 (value_count params p))
 
 -- the configuration with another value of one parameter, settled
-abbrev pub exchanged : Lists → List ℕ → ℕ → ℕ → List ℕ
-exchanged lists θ p v = settled lists (slice_set θ p v)
+abbrev pub exchange_of : Lists → List ℕ → ℕ → ℕ → List ℕ
+exchange_of lists θ p v = settled lists (slice_set θ p v)
 
 -- the configurations with another value of this parameter, by value number
 abbrev pub exchanges : Lists → List ℕ → ℕ → List (List ℕ)
-exchanges lists θ p = map (exchanged lists θ p) (other_values lists.params θ p)
+exchanges lists θ p = map (exchange_of lists θ p) (other_values lists.params θ p)
 
 -- the numbers of the parameters that are active in the configuration
 abbrev pub active_params : Lists → List ℕ → List ℕ

@@ -2,12 +2,12 @@
 //! given each of its other values.
 #![tactic(auto)]
 
-ghost use Rattle.std.specs.Prelude.{◌≡◌, ◌<◌, ◌≤◌, ◌++◌, ◌∷◌, [], IfOk, OnOk, length};
+ghost use Rattle.std.specs.Prelude.{All, ◌≡◌, ◌<◌, ◌≤◌, ◌++◌, ◌∷◌, [], IfOk, OnOk, length};
 ghost use Rattle.std.specs.List.{filter};
-ghost use Rattle.param_space.specs.Space.{Belongs, value_count as count_of_values};
+ghost use Rattle.param_space.specs.Space.{Belongs, value_count};
 ghost use Rattle.param_space.specs.Faults.{IsSpace};
-ghost use Rattle.param_space.specs.Configurations.{is_allowed as allowed};
-ghost use Rattle.neighbourhood.specs.Neighbours.{exchanged, exchanges, neighbours_of};
+ghost use Rattle.param_space.specs.Configurations.{is_allowed, IsConfig};
+ghost use Rattle.neighbourhood.specs.Neighbours.{exchange_of, exchanges, neighbours_of};
 
 use objective::Memory;
 use param_space::{Config, Space};
@@ -22,9 +22,9 @@ fn param_count(space: &Space) -> u16
 }
 
 /// How many values the parameter has.
-fn value_count(space: &Space, param: u16) -> u16
+fn param_value_count(space: &Space, param: u16) -> u16
     requires { param < length space.now.params }
-    ensures { result ≡ count_of_values space.now.params param }
+    ensures { result ≡ value_count space.now.params param }
 {
     space.params()[param as usize].values.as_slice().len() as u16
 }
@@ -40,8 +40,8 @@ fn push_exchange(
 ) -> Result<(), Memory>
     requires belongs { Belongs space.now.params config.now }
     requires param_in_range { param < length space.now.params }
-    requires value_in_range { value < count_of_values space.now.params param }
-    ensures { OnOk result (found.new.items ≡ found.old.items ++ filter (allowed space.now) (exchanged space.now config.now param value ∷ [])) }
+    requires value_in_range { value < value_count space.now.params param }
+    ensures { OnOk result (found.new.items ≡ found.old.items ++ filter (is_allowed space.now) (exchange_of space.now config.now param value ∷ [])) }
 {
     let mut neighbour = config.copy()?;
     neighbour.set(param, value);
@@ -62,10 +62,10 @@ fn push_exchanges(
 ) -> Result<(), Memory>
     requires belongs { Belongs space.now.params config.now }
     requires in_range { param < length space.now.params }
-    ensures { OnOk result (found.new.items ≡ found.old.items ++ filter (allowed space.now) (exchanges space.now config.now param)) }
+    ensures { OnOk result (found.new.items ≡ found.old.items ++ filter (is_allowed space.now) (exchanges space.now config.now param)) }
 {
     let present = config.values()[param as usize];
-    for value in 0..value_count(space, param) {
+    for value in 0..param_value_count(space, param) {
         if value != present {
             push_exchange(space, config, param, value, found)?;
         }
@@ -79,6 +79,7 @@ fn push_exchanges(
 pub fn neighbours(alloc: Global, space: &Space, config: &Config) -> Result<Vec<Config>, Memory>
     requires { Belongs space.now.params config.now }
     ensures value { IfOk result (λ v. v.items ≡ neighbours_of space.now config.now) }
+    ensures sound { IfOk result (λ v. All (IsConfig space.now) v.items) }
     ensures few { IfOk result (λ v. length v.items ≤ 65536) }
 {
     let mut found = Vec::new(alloc);
@@ -89,6 +90,3 @@ pub fn neighbours(alloc: Global, space: &Space, config: &Config) -> Result<Vec<C
     }
     Ok(found)
 }
-
-#[cfg(test)]
-mod tests;

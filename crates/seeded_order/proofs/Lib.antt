@@ -1,1 +1,5 @@
-pub mod Drawing
+mod Attempts
+mod ParamValues
+mod Streams
+pub mod Orders
+pub mod RandomConfigs

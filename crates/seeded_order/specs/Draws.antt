@@ -6,6 +6,7 @@ use Rattle.rand_pcg.specs.Pcg.{multiplier_64, pcg32}
 use Rattle.param_space.specs.declared.lists.Param.{Param}
 use Rattle.param_space.specs.Space.{Lists, defaults}
 use Rattle.param_space.specs.Configurations.{settled, is_allowed}
+use Rattle.seeded_order.specs.Limits.{max_attempts}
 
 -- the generator of a stream after so many words
 unfoldable pub generator_at : ℕ → ℕ → ℕ → Lcg
@@ -20,14 +21,14 @@ abbrev pub stands_before : ℕ × ℕ → ℕ × ℕ → Bool
 stands_before p q = nat_lt p.0 q.0 || ((p.0 == q.0) && nat_lt p.1 q.1)
 
 -- a pair put into its place among sorted pairs
-abbrev pub placed : ℕ × ℕ → List (ℕ × ℕ) → List (ℕ × ℕ)
-placed p [] = p ∷ []
-placed p (q ∷ later) = if stands_before p q then p ∷ q ∷ later else q ∷ placed p later
+abbrev pub with_pair : ℕ × ℕ → List (ℕ × ℕ) → List (ℕ × ℕ)
+with_pair p [] = p ∷ []
+with_pair p (q ∷ later) = if stands_before p q then p ∷ q ∷ later else q ∷ with_pair p later
 
--- the pairs sorted
-abbrev pub sorted : List (ℕ × ℕ) → List (ℕ × ℕ)
-sorted [] = []
-sorted (p ∷ later) = placed p (sorted later)
+-- the pairs in order
+abbrev pub sorted_pairs : List (ℕ × ℕ) → List (ℕ × ℕ)
+sorted_pairs [] = []
+sorted_pairs (p ∷ later) = with_pair p (sorted_pairs later)
 
 -- the numbers below n, each with the word at it
 abbrev pub numbered_words : ℕ → ℕ → ℕ → List (ℕ × ℕ)
@@ -35,7 +36,7 @@ numbered_words seed stream n = map (λ k. (word_of seed stream k, k)) (range_wit
 
 -- the numbers below n, sorted by the word at each, ties by the number
 unfoldable pub order_of : ℕ → ℕ → ℕ → List ℕ
-order_of seed stream n = map (λ p. p.1) (sorted (numbered_words seed stream n))
+order_of seed stream n = map (λ p. p.1) (sorted_pairs (numbered_words seed stream n))
 
 -- one of the numbers below n
 abbrev pub one_of : ℕ → ℕ → ℕ → ℕ
@@ -55,13 +56,13 @@ unfoldable pub attempt_of : ℕ → ℕ → Lists → ℕ → List ℕ
 attempt_of seed stream lists a = settled lists (values_of seed stream (a * length lists.params) lists.params)
 
 -- the first allowed one of so many attempts from an attempt on; where none is allowed, the defaults
-unfoldable pub first_allowed : ℕ → ℕ → Lists → ℕ → ℕ → List ℕ
-first_allowed seed stream lists zero a = defaults lists.params
-first_allowed seed stream lists (suc left) a = elim (is_allowed lists (attempt_of seed stream lists a)) [
+unfoldable pub first_allowed_config : ℕ → ℕ → Lists → ℕ → ℕ → List ℕ
+first_allowed_config seed stream lists zero a = defaults lists.params
+first_allowed_config seed stream lists (suc left) a = elim (is_allowed lists (attempt_of seed stream lists a)) [
   | true ↦ attempt_of seed stream lists a
-  | false ↦ first_allowed seed stream lists left (a + 1)
+  | false ↦ first_allowed_config seed stream lists left (a + 1)
 ]
 
--- a configuration drawn at random, in at most 1,000 attempts
+-- a configuration drawn at random
 unfoldable pub random_config_of : ℕ → ℕ → Lists → List ℕ
-random_config_of seed stream lists = first_allowed seed stream lists 1000 0
+random_config_of seed stream lists = first_allowed_config seed stream lists max_attempts 0

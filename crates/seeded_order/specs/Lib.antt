@@ -1,6 +1,3 @@
 pub mod Draws
-pub mod Streams
-pub mod Orders
-pub mod Values
-pub mod Randoms
-pub mod Example
+pub mod Limits
+pub mod Examples

@@ -1,8 +1,9 @@
 //! Draws.
 ghost use Rattle.std.specs.Prelude.{ℕ, All, ◌≡◌, ◌<◌, ◌≤◌, ◌^◌, IfOk};
-ghost use Rattle.seeded_order.specs.Draws.{generator_at, word_of, order_of, one_of as one_number_of, coin_of, random_config_of};
+ghost use Rattle.seeded_order.specs.Draws.{generator_at, word_of, order_of, one_of, coin_of, random_config_of};
 ghost use Rattle.param_space.specs.Configurations.{IsConfig};
 
+use crate::limits::MAX_ATTEMPTS;
 use crate::values::drawn_config;
 use objective::Memory;
 use param_space::{Config, Space};
@@ -10,9 +11,6 @@ use rand_core::utils::NextWord;
 use rand_pcg::Pcg32;
 use std::alloc::Global;
 use std::marker::Model;
-
-/// How many configurations are drawn before the default is taken.
-const ATTEMPTS: u32 = 1000;
 
 /// The draws of a seed. Contracts see it as the seed. Streams are numbered below 2^62.
 #[derive(Clone, Copy, Debug)]
@@ -37,7 +35,7 @@ impl Draws {
     }
 
     /// A stream's generator, before its first word.
-    #[tactic(auto, using(crate::specs::Streams::first_generator))]
+    #[tactic(auto, using(crate::proofs::Streams::first_generator))]
     fn generator(&self, stream: u64) -> Pcg32
         ensures { result ≡ generator_at self.now stream 0 }
     {
@@ -45,7 +43,7 @@ impl Draws {
     }
 
     /// Word `k`, from 0, of a stream.
-    #[tactic(auto, using(crate::specs::Streams::later_word))]
+    #[tactic(auto, using(crate::proofs::Streams::later_word))]
     pub fn word(&self, stream: u64, k: u32) -> u32
         requires { stream < 2 ^ 62 }
         ensures { result ≡ word_of self.now stream k }
@@ -75,7 +73,7 @@ impl Draws {
     pub fn one_of(&self, stream: u64, n: u32) -> u32
         requires known { stream < 2 ^ 62 }
         requires some { 1 ≤ n }
-        ensures value { result ≡ one_number_of self.now stream n }
+        ensures value { result ≡ one_of self.now stream n }
         ensures below { result < n }
     {
         self.word(stream, 0) % n
@@ -100,7 +98,7 @@ impl Draws {
     {
         let params = space.params();
         let mut generator = self.generator(stream);
-        for _attempt in 0..ATTEMPTS {
+        for _attempt in 0..MAX_ATTEMPTS {
             let mut config = drawn_config(alloc, &mut generator, params)?;
             space.settle(&mut config);
             if space.is_allowed(&config) {

@@ -5,9 +5,8 @@
 #![tactic(auto)]
 
 mod draws;
+mod limits;
 mod values;
 
 pub use draws::Draws;
-
-#[cfg(test)]
-mod tests;
+pub use limits::MAX_ATTEMPTS;

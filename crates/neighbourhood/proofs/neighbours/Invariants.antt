@@ -1,5 +1,5 @@
 use Rattle.std.proofs.Common.{◌≡◌}
-use Rattle.neighbourhood.proofs.Found.{by_param}
+use Rattle.neighbourhood.proofs.Exchanges.{by_param}
 use Rattle.neighbourhood.proofs.neighbours.Given as goal
 
 -- the exchanges of the parameters so far

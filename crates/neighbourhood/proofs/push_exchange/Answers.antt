@@ -1,7 +1,7 @@
 use Rattle.std.proofs.Common.{arith}
 use Rattle.std.proofs.lemmas.Grind.{common_steps}
 use Rattle.param_space.specs.Belonging.{length-Belongs}
-use Rattle.neighbourhood.specs.Soundness.{Belongs-exchange}
+use Rattle.neighbourhood.proofs.Soundness.{Belongs-exchange}
 use Rattle.neighbourhood.proofs.push_exchange.Goals as goal
 
 pub set-requires : goal.set-requires

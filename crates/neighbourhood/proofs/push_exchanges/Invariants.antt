@@ -1,5 +1,5 @@
 use Rattle.std.proofs.Common.{◌≡◌, ◌++◌}
-use Rattle.neighbourhood.proofs.Found.{by_value}
+use Rattle.neighbourhood.proofs.Exchanges.{by_value}
 use Rattle.neighbourhood.proofs.push_exchanges.Given as goal
 
 -- the exchanges to the values so far

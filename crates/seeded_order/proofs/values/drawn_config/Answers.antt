@@ -1,5 +1,5 @@
 use Rattle.std.proofs.Common.{◌≤◌, ◌<◌, length, arith}
-use Rattle.seeded_order.proofs.Drawing.{read_has_values, more_drawn}
+use Rattle.seeded_order.proofs.Attempts.{read_has_values, more_drawn}
 use Rattle.seeded_order.proofs.values.drawn_config.Goals as goal
 
 pub nonzero_rem-next_word : goal.nonzero_rem-next_word

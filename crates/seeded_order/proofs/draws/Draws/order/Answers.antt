@@ -1,7 +1,7 @@
 use Rattle.std.proofs.Common.{rules, ◌≡◌, ◌<◌, ◌∙◌, All, map, sym, subst, ap, arith}
 use Rattle.seeded_order.specs.Draws.{numbered_words}
-use Rattle.seeded_order.specs.Streams.{next_word_is}
-use Rattle.seeded_order.specs.Orders.{sorted_numbers, more_paired, All-order_of}
+use Rattle.seeded_order.proofs.Streams.{next_word_is}
+use Rattle.seeded_order.proofs.Orders.{sorted_numbers, more_paired, All-order_of}
 use Rattle.seeded_order.proofs.draws.Draws.order.Goals as goal
 
 pub loop-number-preserved : goal.loop-number-preserved

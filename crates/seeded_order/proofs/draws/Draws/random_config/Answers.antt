@@ -1,9 +1,9 @@
 use Rattle.std.proofs.Common.{suc, ◌≡◌, ◌<◌, ◌-◌, ◌+◌, ◌*◌, ◌∙◌, IfOk, true, false, length, refl, sym, ap, subst, arith}
 use Rattle.param_space.specs.Configurations.{is_allowed, IsConfig}
 use Rattle.seeded_order.specs.Draws.{generator_at, attempt_of, random_config_of}
-use Rattle.seeded_order.specs.declared.draws.TheConstants.{ATTEMPTS}
-use Rattle.seeded_order.specs.Randoms.{attempt_is_config}
-use Rattle.seeded_order.proofs.Drawing.{drawn_belong, settled_is_attempt, next_attempt, allowed_now, denied_now, none_left}
+use Rattle.seeded_order.specs.declared.limits.TheConstants.{MAX_ATTEMPTS}
+use Rattle.seeded_order.proofs.RandomConfigs.{attempt_is_config}
+use Rattle.seeded_order.proofs.Attempts.{drawn_belong, settled_is_attempt, next_attempt, allowed_now, denied_now, none_left}
 use Rattle.seeded_order.proofs.draws.Draws.random_config.Goals as goal
 
 pub loop-attempt-init : goal.loop-attempt-init
@@ -27,8 +27,8 @@ returns-then-is_allowed-clause-value c =
     settled_is_attempt c.args.self.now c.args.stream a c.args.space.now c.params-params.result.now c.in_ok-config.config c.settle.new.config c.params-params.ensures.value drawn c.settle.ensures.value in
     let passed : is_allowed c.args.space.now (attempt_of c.args.self.now c.args.stream c.args.space.now a) ≡ true =
     ap (is_allowed c.args.space.now) (sym attempt) ∙ sym c.is_allowed.ensures ∙ c.if-is_allowed.true in
-    let some : 0 < ATTEMPTS - a = omega arith in
-    attempt ∙ sym (c.loop-attempt.invariant.left ∙ allowed_now c.args.self.now c.args.stream c.args.space.now (ATTEMPTS - a) a some passed)
+    let some : 0 < MAX_ATTEMPTS - a = omega arith in
+    attempt ∙ sym (c.loop-attempt.invariant.left ∙ allowed_now c.args.self.now c.args.stream c.args.space.now (MAX_ATTEMPTS - a) a some passed)
 
 pub returns-then-is_allowed-clause-sound : goal.returns-then-is_allowed-clause-sound
 returns-then-is_allowed-clause-sound c =
@@ -49,14 +49,14 @@ loop-attempt-preserved c =
     settled_is_attempt c.args.self.now c.args.stream a c.args.space.now c.params-params.result.now c.in_ok-config.config c.settle.new.config c.params-params.ensures.value drawn c.settle.ensures.value in
     let denied : is_allowed c.args.space.now (attempt_of c.args.self.now c.args.stream c.args.space.now a) ≡ false =
     ap (is_allowed c.args.space.now) (sym attempt) ∙ sym c.is_allowed.ensures ∙ c.if-is_allowed.false in
-    let one_less : ATTEMPTS - a ≡ suc (ATTEMPTS - (a + 1)) = omega arith in
+    let one_less : MAX_ATTEMPTS - a ≡ suc (MAX_ATTEMPTS - (a + 1)) = omega arith in
     record {
       drawn = c.in_ok-config.ensures.after c.args.self.now c.args.stream (a * n) c.loop-attempt.invariant.drawn ∙ next_attempt c.args.self.now c.args.stream a n;
-      left = c.loop-attempt.invariant.left ∙ denied_now c.args.self.now c.args.stream c.args.space.now (ATTEMPTS - a) (ATTEMPTS - (a + 1)) a one_less denied;
+      left = c.loop-attempt.invariant.left ∙ denied_now c.args.self.now c.args.stream c.args.space.now (MAX_ATTEMPTS - a) (MAX_ATTEMPTS - (a + 1)) a one_less denied;
     }
 
 pub returns-clause-value : goal.returns-clause-value
 returns-clause-value c =
-    let none : ATTEMPTS - c.loop-attempt._attempt ≡ 0 = omega arith in
-    let last = c.loop-attempt.invariant.left ∙ none_left c.args.self.now c.args.stream c.args.space.now (ATTEMPTS - c.loop-attempt._attempt) c.loop-attempt._attempt none in
+    let none : MAX_ATTEMPTS - c.loop-attempt._attempt ≡ 0 = omega arith in
+    let last = c.loop-attempt.invariant.left ∙ none_left c.args.self.now c.args.stream c.args.space.now (MAX_ATTEMPTS - c.loop-attempt._attempt) c.loop-attempt._attempt none in
     subst (λ d. IfOk c.default_config.result (λ v. v ≡ d)) (sym last) c.default_config.ensures.value

@@ -6,10 +6,10 @@ use Rattle.param_space.specs.Faults.{params_fault, IsSpace}
 use Rattle.param_space.specs.Configurations.{settled, is_allowed}
 use Rattle.rand_pcg.specs.Lcg.{Lcg}
 use Rattle.rand_pcg.specs.Pcg.{pcg32}
-use Rattle.seeded_order.specs.Draws.{generator_at, word_of, values_of, attempt_of, first_allowed}
-use Rattle.seeded_order.specs.Streams.{next_word_is}
-use Rattle.seeded_order.specs.Values.{HasValues, All-HasValues}
-use Rattle.seeded_order.specs.Randoms.{Belongs-values_of}
+use Rattle.seeded_order.specs.Draws.{generator_at, word_of, values_of, attempt_of, first_allowed_config}
+use Rattle.seeded_order.proofs.Streams.{next_word_is}
+use Rattle.seeded_order.proofs.ParamValues.{HasValues, All-HasValues}
+use Rattle.seeded_order.proofs.RandomConfigs.{Belongs-values_of}
 
 -- the parameter that a loop reads has one to 256 values
 pub read_has_values : (params : List Param) (i : ℕ) (p : Param) (texts : List (List ℕ)) → params_fault params ≡ None → i < length params → p ≡ get_or params i p → texts ≡ p.values → (0 < length texts) × (length texts ≤ 256)
@@ -64,20 +64,20 @@ next_attempt seed stream a n =
     ap (generator_at seed stream) place
 
 -- an attempt that is allowed is the answer
-pub allowed_now : (seed stream : ℕ) (lists : Lists) (left a : ℕ) → 0 < left → is_allowed lists (attempt_of seed stream lists a) ≡ true → first_allowed seed stream lists left a ≡ attempt_of seed stream lists a
-unfolding first_allowed
+pub allowed_now : (seed stream : ℕ) (lists : Lists) (left a : ℕ) → 0 < left → is_allowed lists (attempt_of seed stream lists a) ≡ true → first_allowed_config seed stream lists left a ≡ attempt_of seed stream lists a
+unfolding first_allowed_config
 allowed_now seed stream lists zero a some h = absurd (omega arith)
 allowed_now seed stream lists (suc left) a some h =
-    ap (λ b. elim b as (λ _. List ℕ) [ true ↦ attempt_of seed stream lists a | false ↦ first_allowed seed stream lists left (a + 1) ]) h
+    ap (λ b. elim b as (λ _. List ℕ) [ true ↦ attempt_of seed stream lists a | false ↦ first_allowed_config seed stream lists left (a + 1) ]) h
 
 -- after one that isn't it is one of the later ones
-pub denied_now : (seed stream : ℕ) (lists : Lists) (left later a : ℕ) → left ≡ suc later → is_allowed lists (attempt_of seed stream lists a) ≡ false → first_allowed seed stream lists left a ≡ first_allowed seed stream lists later (a + 1)
-unfolding first_allowed
+pub denied_now : (seed stream : ℕ) (lists : Lists) (left later a : ℕ) → left ≡ suc later → is_allowed lists (attempt_of seed stream lists a) ≡ false → first_allowed_config seed stream lists left a ≡ first_allowed_config seed stream lists later (a + 1)
+unfolding first_allowed_config
 denied_now seed stream lists left later a e h =
-    ap (λ n. first_allowed seed stream lists n a) e
-    ∙ ap (λ b. elim b as (λ _. List ℕ) [ true ↦ attempt_of seed stream lists a | false ↦ first_allowed seed stream lists later (a + 1) ]) h
+    ap (λ n. first_allowed_config seed stream lists n a) e
+    ∙ ap (λ b. elim b as (λ _. List ℕ) [ true ↦ attempt_of seed stream lists a | false ↦ first_allowed_config seed stream lists later (a + 1) ]) h
 
 -- with no attempt left it is the default
-pub none_left : (seed stream : ℕ) (lists : Lists) (left a : ℕ) → left ≡ 0 → first_allowed seed stream lists left a ≡ defaults lists.params
-unfolding first_allowed
-none_left seed stream lists left a e = ap (λ n. first_allowed seed stream lists n a) e
+pub none_left : (seed stream : ℕ) (lists : Lists) (left a : ℕ) → left ≡ 0 → first_allowed_config seed stream lists left a ≡ defaults lists.params
+unfolding first_allowed_config
+none_left seed stream lists left a e = ap (λ n. first_allowed_config seed stream lists n a) e

@@ -8,7 +8,7 @@ use Rattle.std.proofs.lemmas.List.{map-append, append-nil}
 use Rattle.std.proofs.lemmas.List.Elements.{filter-append}
 use Rattle.param_space.specs.Space.{Lists}
 use Rattle.param_space.specs.Configurations.{is_active, is_allowed}
-use Rattle.neighbourhood.specs.Neighbours.{exchanged, exchanges}
+use Rattle.neighbourhood.specs.Neighbours.{exchange_of, exchanges}
 
 range_more : (a n : ℕ) → range_with_len a (suc n) ≡ range_with_len a n ++ (a + n) ∷ []
 range_more a zero = rw add-zero refl
@@ -24,19 +24,19 @@ up_to n =
 
 -- the allowed exchanges of the parameter p to values below n
 abbrev pub by_value : Lists → List ℕ → ℕ → ℕ → List (List ℕ)
-by_value lists θ p n = filter (is_allowed lists) (map (exchanged lists θ p) (filter (λ v. not (v == slice_index θ p)) (range_with_len 0 n)))
+by_value lists θ p n = filter (is_allowed lists) (map (exchange_of lists θ p) (filter (λ v. not (v == slice_index θ p)) (range_with_len 0 n)))
 
 -- what the value n adds
 by_value-step : (lists : Lists) (θ : List ℕ) (p n : ℕ) (b : Bool) → not (n == slice_index θ p) ≡ b
-    → by_value lists θ p (n + 1) ≡ by_value lists θ p n ++ filter (is_allowed lists) (map (exchanged lists θ p) (cond b (n ∷ []) []))
+    → by_value lists θ p (n + 1) ≡ by_value lists θ p n ++ filter (is_allowed lists) (map (exchange_of lists θ p) (cond b (n ∷ []) []))
 by_value-step lists θ p n b is =
     let other : ℕ → Bool = λ v. not (v == slice_index θ p) in
     let more = ap (filter other) (up_to n) ∙ filter-append other (range_with_len 0 n) (n ∷ []) ∙ ap (λ t. filter other (range_with_len 0 n) ++ cond t (n ∷ []) []) is in
-    let mapped = ap (map (exchanged lists θ p)) more ∙ map-append (exchanged lists θ p) (filter other (range_with_len 0 n)) (cond b (n ∷ []) []) in
-    ap (filter (is_allowed lists)) mapped ∙ filter-append (is_allowed lists) (map (exchanged lists θ p) (filter other (range_with_len 0 n))) (map (exchanged lists θ p) (cond b (n ∷ []) []))
+    let mapped = ap (map (exchange_of lists θ p)) more ∙ map-append (exchange_of lists θ p) (filter other (range_with_len 0 n)) (cond b (n ∷ []) []) in
+    ap (filter (is_allowed lists)) mapped ∙ filter-append (is_allowed lists) (map (exchange_of lists θ p) (filter other (range_with_len 0 n))) (map (exchange_of lists θ p) (cond b (n ∷ []) []))
 
 pub by_value-other : (lists : Lists) (θ : List ℕ) (p n : ℕ) → n ≢ slice_index θ p
-    → by_value lists θ p (n + 1) ≡ by_value lists θ p n ++ filter (is_allowed lists) (exchanged lists θ p n ∷ [])
+    → by_value lists θ p (n + 1) ≡ by_value lists θ p n ++ filter (is_allowed lists) (exchange_of lists θ p n ∷ [])
 by_value-other lists θ p n other = by_value-step lists θ p n true (grind (arith, nat_tests))
 
 pub by_value-present : (lists : Lists) (θ : List ℕ) (p n : ℕ) → n ≡ slice_index θ p → by_value lists θ p (n + 1) ≡ by_value lists θ p n

@@ -10,8 +10,8 @@ use Rattle.param_space.specs.Space.{Lists, value_count}
 use Rattle.param_space.specs.Faults.{IsSpace}
 use Rattle.param_space.specs.Belonging.{few_values, few_params}
 use Rattle.param_space.specs.Configurations.{is_active, is_allowed}
-use Rattle.neighbourhood.specs.Neighbours.{other_values, exchanged, exchanges, active_params, neighbours_of}
-use Rattle.neighbourhood.specs.Soundness.{no_param, range_below}
+use Rattle.neighbourhood.specs.Neighbours.{other_values, exchange_of, exchanges, active_params, neighbours_of}
+use Rattle.neighbourhood.proofs.Soundness.{no_param, range_below}
 
 -- a filter keeps no more than there is
 kept : {X : Type 0} (p : X → Bool) (xs : List X) → length (filter p xs) ≤ length xs
@@ -36,7 +36,7 @@ few_exchanges lists space θ p lt =
     let few = few_values lists.params p no_param space.params lt in
     let all = length-range_with_len 0 (value_count lists.params p) in
     let some = kept (λ v. not (v == slice_index θ p)) (range_with_len 0 (value_count lists.params p)) in
-    let same = length-map (other_values lists.params θ p) (exchanged lists θ p) in
+    let same = length-map (other_values lists.params θ p) (exchange_of lists θ p) in
     omega (arith, count, few, all, some, same)
 
 -- at most 256 parameters with at most 256 values each

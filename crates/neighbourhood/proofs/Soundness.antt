@@ -10,7 +10,7 @@ use Rattle.param_space.specs.Faults.{IsSpace}
 use Rattle.param_space.specs.Configurations.{is_active, is_allowed, IsConfig}
 use Rattle.param_space.specs.Belonging.{Belongs-set}
 use Rattle.param_space.specs.Soundness.{settled_is_config}
-use Rattle.neighbourhood.specs.Neighbours.{other_values, exchanged, exchanges, active_params, neighbours_of}
+use Rattle.neighbourhood.specs.Neighbours.{other_values, exchange_of, exchanges, active_params, neighbours_of}
 
 -- what holds of each element of each part holds of each element of all
 All-flat_map : {X Y : Type 0} (P : Y → Type 0) (f : X → List Y) (xs : List X) → All (λ x. All P (f x)) xs → All P (flat_map f xs)
@@ -35,7 +35,7 @@ Belongs-exchange params θ p v h lt below =
 abbrev AllowedIsConfig : Lists → List ℕ → Type 0
 AllowedIsConfig lists θ = is_allowed lists θ ≡ true → IsConfig lists θ
 
-exchange_is_config : (lists : Lists) → IsSpace lists → (θ : List ℕ) → Belongs lists.params θ → (p v : ℕ) → p < length lists.params → v < value_count lists.params p → AllowedIsConfig lists (exchanged lists θ p v)
+exchange_is_config : (lists : Lists) → IsSpace lists → (θ : List ℕ) → Belongs lists.params θ → (p v : ℕ) → p < length lists.params → v < value_count lists.params p → AllowedIsConfig lists (exchange_of lists θ p v)
 exchange_is_config lists space θ belongs p v lt below allowed =
     settled_is_config lists space (slice_set θ p v) (Belongs-exchange lists.params θ p v belongs lt below) allowed
 
@@ -43,8 +43,8 @@ exchanges_are_configs : (lists : Lists) → IsSpace lists → (θ : List ℕ) �
 exchanges_are_configs lists space θ config p lt =
     let count : ℕ = value_count lists.params p in
     let below = All-filter (λ v. not (v == slice_index θ p)) (λ v. v < count) (range_with_len 0 count) (range_below count 0 count (omega arith)) in
-    All-map (AllowedIsConfig lists) (exchanged lists θ p) (other_values lists.params θ p)
-    (All-weaker (λ v. v < count) (λ v. AllowedIsConfig lists (exchanged lists θ p v)) (λ v less. exchange_is_config lists space θ config p v lt less) (other_values lists.params θ p) below)
+    All-map (AllowedIsConfig lists) (exchange_of lists θ p) (other_values lists.params θ p)
+    (All-weaker (λ v. v < count) (λ v. AllowedIsConfig lists (exchange_of lists θ p v)) (λ v less. exchange_is_config lists space θ config p v lt less) (other_values lists.params θ p) below)
 
 -- what holds of the elements that pass holds of all that are kept
 All-kept : {X : Type 0} (passes : X → Bool) (P : X → Type 0) (xs : List X) → All (λ x. passes x ≡ true → P x) xs → All P (filter passes xs)

@@ -1,6 +1,6 @@
 use Rattle.std.proofs.Common.{arith}
-use Rattle.neighbourhood.proofs.Counts.{few_read}
-use Rattle.neighbourhood.proofs.value_count.Goals as goal
+use Rattle.neighbourhood.proofs.ParamCounts.{few_read}
+use Rattle.neighbourhood.proofs.param_value_count.Goals as goal
 
 pub overflow_cast-result : goal.overflow_cast-result
 overflow_cast-result c =

@@ -7,8 +7,9 @@ use Rattle.param_space.specs.Space.{Lists, Belongs}
 use Rattle.param_space.specs.Faults.{IsSpace}
 use Rattle.param_space.specs.Configurations.{is_allowed, IsConfig}
 use Rattle.param_space.specs.Soundness.{settled_is_config, default_is_config}
-use Rattle.seeded_order.specs.Draws.{word_of, values_of, attempt_of, first_allowed, random_config_of}
-use Rattle.seeded_order.specs.Values.{HasValues, All-HasValues}
+use Rattle.seeded_order.specs.Draws.{word_of, values_of, attempt_of, first_allowed_config, random_config_of}
+use Rattle.seeded_order.specs.Limits.{max_attempts}
+use Rattle.seeded_order.proofs.ParamValues.{HasValues, All-HasValues}
 
 -- a word modulo the number of values is a value's number
 pub Belongs-values_of : (seed stream k : ℕ) (params : List Param) → All HasValues params → Belongs params (values_of seed stream k params)
@@ -26,18 +27,18 @@ attempt_is_config lists space seed stream a allowed =
     let belongs = Belongs-values_of seed stream (a * length lists.params) lists.params (All-HasValues lists.params space.params) in
     settled_is_config lists space values belongs allowed
 
-first_is_config : (lists : Lists) → IsSpace lists → (seed stream left a : ℕ) → IsConfig lists (first_allowed seed stream lists left a)
-unfolding first_allowed
+first_is_config : (lists : Lists) → IsSpace lists → (seed stream left a : ℕ) → IsConfig lists (first_allowed_config seed stream lists left a)
+unfolding first_allowed_config
 first_is_config lists space seed stream zero a = default_is_config lists space
 first_is_config lists space seed stream (suc left) a =
     by (is_allowed lists (attempt_of seed stream lists a)) refl (first_is_config lists space seed stream left (a + 1))
   where
-    by : (b : Bool) → is_allowed lists (attempt_of seed stream lists a) ≡ b → IsConfig lists (first_allowed seed stream lists left (a + 1))
-        → IsConfig lists (elim b [ true ↦ attempt_of seed stream lists a | false ↦ first_allowed seed stream lists left (a + 1) ])
+    by : (b : Bool) → is_allowed lists (attempt_of seed stream lists a) ≡ b → IsConfig lists (first_allowed_config seed stream lists left (a + 1))
+        → IsConfig lists (elim b [ true ↦ attempt_of seed stream lists a | false ↦ first_allowed_config seed stream lists left (a + 1) ])
     by true e later = attempt_is_config lists space seed stream a e
     by false e later = later
 
 -- a configuration drawn at random is an allowed canonical one of the space
 pub random_is_config : (lists : Lists) → IsSpace lists → (seed stream : ℕ) → IsConfig lists (random_config_of seed stream lists)
 unfolding random_config_of
-random_is_config lists space seed stream = first_is_config lists space seed stream 1000 0
+random_is_config lists space seed stream = first_is_config lists space seed stream max_attempts 0

@@ -3,7 +3,7 @@ use Rattle.std.specs.Prelude.{◌≡◌, [], ◌∷◌, true, false, map, codes,
 use Rattle.rand_pcg.specs.Lcg.{state_after}
 use Rattle.param_space.specs.declared.lists.Param.{Param}
 use Rattle.param_space.specs.Configurations.{is_active_within}
-use Rattle.seeded_order.specs.Draws.{generator_at, word_of, order_of, one_of, coin_of, attempt_of, first_allowed, random_config_of}
+use Rattle.seeded_order.specs.Draws.{generator_at, word_of, order_of, one_of, coin_of, attempt_of, first_allowed_config, random_config_of}
 
 pub first_words : map (word_of 42 54) (0 ∷ 1 ∷ 2 ∷ 3 ∷ []) ≡ 0xa15c02b7 ∷ 0x7b47f409 ∷ 0xba1d3330 ∷ 0x83d2f293 ∷ []
 unfolding word_of generator_at state_after
@@ -39,5 +39,5 @@ y = record { name = codes "y"; values = codes "1" ∷ codes "2" ∷ []; default 
 
 -- x=a y=2
 pub random_of_two : random_config_of 42 54 (record { params = x ∷ y ∷ []; conditions = []; forbidden = [] }) ≡ 0 ∷ 1 ∷ []
-unfolding random_config_of first_allowed attempt_of word_of generator_at state_after is_active_within
+unfolding random_config_of first_allowed_config attempt_of word_of generator_at state_after is_active_within
 random_of_two = refl

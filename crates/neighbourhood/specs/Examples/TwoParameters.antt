@@ -5,8 +5,11 @@ use Rattle.param_space.specs.declared.lists.Condition.{Condition}
 use Rattle.param_space.specs.declared.lists.Forbidden.{Forbidden}
 use Rattle.param_space.specs.Space.{Lists}
 use Rattle.param_space.specs.Configurations.{is_active_within}
-use Rattle.param_space.specs.Example.{x}
 use Rattle.neighbourhood.specs.Neighbours.{neighbours_of}
+
+-- `x {a, b} [a]`
+abbrev pub x : Param
+x = record { name = codes "x"; values = codes "a" ∷ codes "b" ∷ []; default = 0 }
 
 -- `y {1, 2, 3} [2]`
 abbrev pub y : Param
@@ -33,7 +36,7 @@ pub settles : neighbours_of (x_and_y under_a []) (0 ∷ 2 ∷ []) ≡ (1 ∷ 1 �
 unfolding neighbours_of is_active_within
 settles = refl
 
--- an inactive parameter is not exchanged
+-- an inactive parameter is not exchange_of
 pub leaves_inactive : neighbours_of (x_and_y under_a []) (1 ∷ 1 ∷ []) ≡ (0 ∷ 1 ∷ []) ∷ []
 unfolding neighbours_of is_active_within
 leaves_inactive = refl
