@@ -1,18 +1,16 @@
 -- The first line of a text, and the others.
 use Rattle.std.proofs.Common.{ℕ, suc, ◌≡◌, ◌<◌, ◌+◌, ◌==◌, Bool, true, false, List, [], ◌∷◌, length, take, drop, refl, sym, ap, ◌∙◌, arith}
-use Rattle.std.proofs.lemmas.Bool.Decides.{nat_tests}
-use Rattle.std.proofs.lemmas.List.{length-take}
+use Rattle.std.proofs.lemmas.Bool.{eqb-true}
 use Rattle.std.proofs.lemmas.List.Splits.{slice_split_first, slice_split-cons_no, length-slice_split}
 use Rattle.std.specs.List.{slice_split, onto_first, position_or_len}
-use Rattle.plain_text.specs.declared.breaks.Line.{Line}
-use Rattle.plain_text.specs.Lines.{is_break, ended_size, lines_of, IsFirstLine}
+use Rattle.plain_text.specs.Lines.{is_break, without_return, lines_among, lines, numbered_from}
 use Rattle.plain_text.proofs.Kept.{drop_all}
 
--- no lines are left of an empty text
-pub none_left : (given start : ℕ) (text : List ℕ) → length text ≡ 0 → [] ≡ lines_of given start (slice_split is_break text)
-unfolding lines_of
-none_left given start [] e = refl
-none_left given start (b ∷ text) e = absurd (omega (arith, e))
+-- an empty text has no lines
+pub lines-none : (text : List ℕ) → length text ≡ 0 → lines text ≡ []
+unfolding lines_among
+lines-none [] e = refl
+lines-none (b ∷ text) e = absurd (omega (arith, e))
 
 -- a text without a line feed
 unbroken : (text : List ℕ) → position_or_len is_break text ≡ length text → slice_split is_break text ≡ text ∷ []
@@ -25,26 +23,42 @@ unbroken (b ∷ text) e = by (is_break b) refl (λ rest. unbroken text rest)
         let f : 1 + position_or_len is_break text ≡ suc (length text) = rw (sym t) at e in
         slice_split-cons_no is_break b text (sym t) ∙ ap (λ parts. onto_first b parts) (rest (omega (arith, f)))
 
-pub open_first : (text : List ℕ) (place : ℕ) → 0 < length text → place ≡ position_or_len is_break text → place ≡ length text → IsFirstLine text place place
-unfolding lines_of
-open_first text place some first all given start =
-    let parts = unbroken text (sym first ∙ all) in
-    let others : drop place text ≡ [] = drop_all place text (omega (arith, all)) in
-    let test : (length text == 0) ≡ false = grind (arith, nat_tests, some) in
-    rw (parts, others, test, all) refl
+-- what no line feed ends is one line
+pub lines-open : (text later : List ℕ) (place : ℕ) → 0 < length text → place ≡ position_or_len is_break text → place ≡ length text → later ≡ drop place text → lines text ≡ text ∷ lines later
+unfolding lines_among
+lines-open [] later place some first all rest = absurd (omega (arith, some))
+lines-open (b ∷ text) later place some first all rest =
+    let parts = unbroken (b ∷ text) (sym first ∙ all) in
+    let none : later ≡ [] = rest ∙ drop_all place (b ∷ text) (omega (arith, all)) in
+    ap lines_among parts ∙ ap (λ xs. (b ∷ text) ∷ lines xs) (sym none)
 
-pub ended_first : (text : List ℕ) (place size : ℕ) → place ≡ position_or_len is_break text → place < length text → size ≡ ended_size (take place text) → IsFirstLine text size (place + 1)
-unfolding lines_of
-ended_first text place size first inside ends given start =
+-- a part before others
+among_more : (part : List ℕ) (parts : List (List ℕ)) → 0 < length parts → lines_among (part ∷ parts) ≡ without_return part ∷ lines_among parts
+unfolding lines_among
+among_more part [] some = absurd (omega (arith, some))
+among_more part (next ∷ parts) some = refl
+
+-- a line before a line feed, and the others
+pub lines-ended : (text line later : List ℕ) (place : ℕ) → place ≡ position_or_len is_break text → place < length text → line ≡ without_return (take place text) → later ≡ drop (place + 1) text → lines text ≡ line ∷ lines later
+lines-ended text line later place first inside ends rest =
     let parts : slice_split is_break text ≡ take place text ∷ slice_split is_break (drop (place + 1) text) =
     slice_split_first is_break text 0 (omega (arith, first, inside)) ∙ ap (λ k. take k text ∷ slice_split is_break (drop (k + 1) text)) (sym first) in
-    let more : (length (slice_split is_break (drop (place + 1) text)) == 0) ≡ false = grind (arith, nat_tests, length-slice_split is_break (drop (place + 1) text)) in
-    let front : length (take place text) ≡ place = omega (arith, inside, length-take place text) in
-    let after : start + length (take place text) + 1 ≡ start + (place + 1) = omega (arith, front) in
-    ap (lines_of given start) parts ∙ rw (more, after, sym ends) refl
+    ap lines_among parts
+    ∙ among_more (take place text) (slice_split is_break (drop (place + 1) text)) (omega (arith, length-slice_split is_break (drop (place + 1) text)))
+    ∙ (λ i. sym ends i ∷ lines (sym rest i))
 
--- no lines are left, from what the code's test says
-pub none_left_by : (given start : ℕ) (text : List ℕ) (seen : List Line) → true ≡ (length text == 0) → lines_of given start (slice_split is_break text) ≡ seen → (seen ≡ []) × (seen ≡ [])
-none_left_by given start text seen test e =
-    let size : length text ≡ 0 = grind (arith, nat_tests, test) in
-    let none : seen ≡ [] = sym e ∙ sym (none_left given start text size) in (none, none)
+-- numbered lines, of which the first is taken
+pub numbered-first : (n : ℕ) (text line later : List ℕ) → lines text ≡ line ∷ lines later → numbered_from n (lines text) ≡ (n, line) ∷ numbered_from (n + 1) (lines later)
+unfolding numbered_from
+numbered-first n text line later e = ap (numbered_from n) e
+
+-- no numbered lines are left of an empty text
+pub numbered-none : (n : ℕ) (text : List ℕ) → length text ≡ 0 → numbered_from n (lines text) ≡ []
+unfolding numbered_from
+numbered-none n text e = ap (numbered_from n) (lines-none text e)
+
+-- the same, from what the code's test says
+pub numbered-none_by : (n : ℕ) (text : List ℕ) (seen : List (ℕ × List ℕ)) → true ≡ (length text == 0) → numbered_from n (lines text) ≡ seen → (seen ≡ []) × (seen ≡ [])
+numbered-none_by n text seen test e =
+    let size : length text ≡ 0 = eqb-true (length text) 0 (sym test) in
+    let none : seen ≡ [] = sym e ∙ numbered-none n text size in (none, none)

@@ -7,8 +7,9 @@ pub mod TokenPlaces
 pub mod TokensAlong
 pub mod TokenTexts
 pub mod Lines
-pub mod LinePlaces
-pub mod LineTexts
+pub mod Limits
+pub mod Faults
+pub mod LineFolds
 pub mod Trimming
 pub mod Results
 pub mod Texts

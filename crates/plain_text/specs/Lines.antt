@@ -1,46 +1,35 @@
--- The lines of a text, with their numbers and places.
-use Rattle.std.specs.Prelude.{ℕ, Bool, ◌≡◌, ◌+◌, ◌-◌, ◌&&◌, ◌==◌, nat_lt, List, [], ◌∷◌, length, map, take, drop, get_or, if◌then◌else◌}
+-- The lines of a text, and their numbers.
+use Rattle.std.specs.Prelude.{ℕ, Bool, ◌+◌, ◌-◌, ◌==◌, List, [], ◌∷◌, length, take, get_or, if◌then◌else◌}
 use Rattle.std.specs.List.{slice_split}
-use Rattle.plain_text.specs.declared.breaks.Line.{Line}
-
--- the most bytes that a file may have
-abbrev pub max_bytes : ℕ
-max_bytes = 16777216
 
 -- a line feed
 abbrev pub is_break : ℕ → Bool
 is_break b = b == 10
 
--- the size of a line that a line feed ends: a carriage return directly before it is left out
-abbrev pub ended_size : List ℕ → ℕ
-ended_size line = if nat_lt 0 (length line) && (get_or line (length line - 1) 0 == 13) then length line - 1 else length line
-
--- a line after a number of others, at a place
-abbrev pub line_at : ℕ → ℕ → ℕ → Line
-line_at given start size = record { number = given + 1; start = start; end = start + size }
+-- what a line feed ends, without a carriage return directly before it
+abbrev pub without_return : List ℕ → List ℕ
+without_return part = if get_or part (length part - 1) 0 == 13 then take (length part - 1) part else part
 
 -- what no line feed ends is a line where it isn't empty
-abbrev pub open_line : ℕ → ℕ → List ℕ → List Line
-open_line given start part = if length part == 0 then [] else line_at given start (length part) ∷ []
+abbrev pub open_line : List ℕ → List (List ℕ)
+open_line [] = []
+open_line (b ∷ part) = (b ∷ part) ∷ []
 
--- the lines of the parts of a text between its line feeds, after a number of others, from a place on
-unfoldable pub lines_of : ℕ → ℕ → List (List ℕ) → List Line
-lines_of given start [] = []
-lines_of given start (part ∷ parts) = if length parts == 0 then open_line given start part else line_at given start (ended_size part) ∷ lines_of (given + 1) (start + length part + 1) parts
+-- the lines of the parts of a text between its line feeds
+unfoldable pub lines_among : List (List ℕ) → List (List ℕ)
+lines_among [] = []
+lines_among (part ∷ []) = open_line part
+lines_among (part ∷ next ∷ parts) = without_return part ∷ lines_among (next ∷ parts)
 
 -- the lines of a text
-abbrev pub lines : List ℕ → List Line
-lines text = lines_of 0 0 (slice_split is_break text)
+abbrev pub lines : List ℕ → List (List ℕ)
+lines text = lines_among (slice_split is_break text)
 
--- a line's number and its bytes
-abbrev pub numbered : List ℕ → Line → ℕ × List ℕ
-numbered text line = (line.number, take (line.end - line.start) (drop line.start text))
+-- texts with their numbers, from a number on
+unfoldable pub numbered_from : ℕ → List (List ℕ) → List (ℕ × List ℕ)
+numbered_from n [] = []
+numbered_from n (text ∷ texts) = (n, text) ∷ numbered_from (n + 1) texts
 
--- the lines of a text, each with its number
+-- the lines of a text, each with its number, from 1
 unfoldable pub numbered_lines : List ℕ → List (ℕ × List ℕ)
-numbered_lines text = map (numbered text) (lines text)
-
--- the first line of a text has this size, and the others stand after so many bytes
-abbrev pub IsFirstLine : List ℕ → ℕ → ℕ → Type 0
-IsFirstLine text size taken =
-    (given start : ℕ) → lines_of given start (slice_split is_break text) ≡ line_at given start size ∷ lines_of (given + 1) (start + taken) (slice_split is_break (drop taken text))
+numbered_lines text = numbered_from 1 (lines text)

@@ -39,11 +39,11 @@ pub fn seconds_text(alloc: Global, micros: u64) -> Result<Text, Memory>
 
 /// Appends a time in microseconds as whole seconds, a point and six digits. After want of
 /// memory `out` is as it was.
-pub fn push_seconds(alloc: Global, out: &mut Vec<u8>, micros: u64) -> Result<(), Memory>
+pub fn push_seconds(out: &mut Vec<u8>, micros: u64) -> Result<(), Memory>
     ensures ok { OnOk result (out.new.items ≡ out.old.items ++ seconds micros) }
     ensures err { OnErr result (out.new.items ≡ out.old.items) }
 {
-    let text = seconds_text(alloc, micros)?;
+    let text = seconds_text(*out.allocator(), micros)?;
     out.extend_from_slice(text.as_str().as_bytes())?;
     Ok(())
 }

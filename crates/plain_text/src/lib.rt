@@ -1,13 +1,12 @@
 //! Texts and lists as contracts see them, words, and numbers as text.
 #![tactic(auto)]
 
-mod breaks;
 mod cuts;
 mod decimals;
 mod items;
+mod limits;
+mod lines;
 mod parts;
-#[cfg(test)]
-mod tests;
 mod text;
 mod texts;
 mod times;
@@ -15,10 +14,11 @@ mod tokenizer;
 mod trimming;
 mod words;
 
-pub use breaks::{Line, MAX_BYTES, TextLines, lines};
 pub use cuts::{after_prefix, parted};
 pub use decimals::{push_seconds, read_count, seconds_text};
 pub use items::Items;
+pub use limits::MAX_BYTES;
+pub use lines::{NumberedLine, NumberedLines, numbered_lines};
 pub use parts::pieces;
 pub use text::Text;
 pub use texts::{has_text, place_of, texts_differ};
