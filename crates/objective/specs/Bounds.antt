@@ -1,5 +1,6 @@
 -- What bounds and prices a run, as plain numbers of microseconds.
 use Rattle.std.specs.Prelude.{ℕ, ◌≤◌}
+use Rattle.objective.specs.Limits.{max_cutoff}
 use Rattle.objective.specs.declared.Factor.{Factor}
 
 pub record Bounds : Type 0 where
@@ -11,4 +12,4 @@ pub record Bounds : Type 0 where
 pub record AreInRange (cutoff floor : ℕ) : Type 0 where
   pub floor_positive : 1 ≤ floor
   pub floor_at_most_cutoff : floor ≤ cutoff
-  pub cutoff_in_range : cutoff ≤ 1000000000000
+  pub cutoff_in_range : cutoff ≤ max_cutoff

@@ -1,7 +1,6 @@
 -- What a run shows under a cutoff, and what it costs (penalised running time, Hutter et al., JAIR 36).
 use Rattle.std.specs.Prelude.{ℕ, ◌*◌, ◌≤◌, min, max, List, Option, Some, None, nat_le, if◌then◌else◌}
 use Rattle.objective.specs.Bounds.{Bounds}
-use Rattle.objective.specs.declared.Micros.{Micros}
 use Rattle.objective.specs.declared.Factor.{Factor}
 use Rattle.objective.specs.declared.Factor.TheVariants.{One, Ten, Thousand}
 use Rattle.objective.specs.declared.Outcome.{Outcome}

@@ -6,10 +6,36 @@
 #![tactic(auto)]
 
 ghost use Rattle.std.specs.Prelude.{◌≡◌, ◌+◌, ◌*◌, ◌≤◌, ◌↔◌, IsTrue, option_map, nat_le};
-ghost use Rattle.objective.specs.Costs.{seen as seen_under, within as within_cutoff, penalty as penalty_of, cost_of, cap as cap_of, Table};
+ghost use Rattle.objective.specs.Limits.{max_cutoff, max_sum};
+ghost use Rattle.objective.specs.Costs;
 
 use std::alloc::{AllocError, AllocFailed};
 use std::marker::Model;
+
+/// The greatest cutoff, in microseconds: 1,000,000 seconds.
+pub const MAX_CUTOFF: u64 = 1_000_000_000_000;
+
+/// The greatest sum of costs: that of [`MAX_RUNS`] runs, each of which costs a thousand of
+/// the greatest cutoffs.
+pub const MAX_SUM: u64 = 10_000_000_000_000_000_000;
+
+/// The most pairs of a comparison, the key `N`.
+pub const MAX_RUNS: u32 = 10_000;
+
+/// The most comparisons of a tuning.
+pub const MAX_COMPARISONS: u32 = 100_000;
+
+/// The most random configurations that the default is compared with at first.
+pub const MAX_INITIAL: u32 = 1_000;
+
+/// The most random steps of a perturbation.
+pub const MAX_STRENGTH: u32 = 100;
+
+/// A restart after each turn, in ten-thousandths.
+pub const MAX_RESTART: u16 = 10_000;
+
+/// The most seats that work on a tuning.
+pub const MAX_WORKERS: u32 = 64;
 
 /// There is no memory left. Every call that allocates may answer so.
 #[derive(Clone, Copy, Debug, PartialEq, Eq)]
@@ -97,7 +123,7 @@ impl Model for Limits {
 
 /// What a run with this outcome shows under a cutoff.
 pub fn seen(outcome: Outcome, cutoff: Micros) -> Answer
-    ensures { result ≡ seen_under outcome cutoff.0 }
+    ensures { result ≡ Costs.seen outcome cutoff.0 }
 {
     match outcome {
         Outcome::Solved(t) if t.0 <= cutoff.0 => Answer::Solved(t),
@@ -109,7 +135,7 @@ pub fn seen(outcome: Outcome, cutoff: Micros) -> Answer
 
 /// The outcome, where one that takes longer than the full cutoff counts as unsolved.
 pub fn within(outcome: Outcome, limits: &Limits) -> Outcome
-    ensures { result ≡ within_cutoff outcome limits.now }
+    ensures { result ≡ Costs.within outcome limits.now }
 {
     match outcome {
         Outcome::Solved(t) | Outcome::Crashed(t) | Outcome::Abort(t) => {
@@ -125,8 +151,8 @@ pub fn within(outcome: Outcome, limits: &Limits) -> Outcome
 
 /// What a run without a solution costs: the full cutoff times the factor.
 pub fn penalty(limits: &Limits) -> Sum
-    ensures value { result.0 ≡ penalty_of limits.now }
-    ensures bound { result.0 ≤ 1_000_000_000_000_000 }
+    ensures value { result.0 ≡ Costs.penalty limits.now }
+    ensures bound { result.0 ≤ 1000 * max_cutoff }
 {
     match limits.factor {
         Factor::One => Sum(limits.cutoff.0),
@@ -137,7 +163,7 @@ pub fn penalty(limits: &Limits) -> Sum
 
 /// The cost of an outcome within the limits. None exactly for an abort.
 pub fn cost(outcome: Outcome, limits: &Limits) -> Option<Sum>
-    ensures { option_map (λ s. s.0) result ≡ cost_of limits.now outcome }
+    ensures { option_map (λ s. s.0) result ≡ Costs.cost_of limits.now outcome }
 {
     match within(outcome, limits) {
         Outcome::Solved(t) => Some(Sum(t.0)),
@@ -148,7 +174,7 @@ pub fn cost(outcome: Outcome, limits: &Limits) -> Option<Sum>
 
 /// The sum of the two. The greatest sum of a tuning is 10^19, which a u64 holds.
 pub fn add(sum: Sum, cost: Sum) -> Sum
-    requires { sum.0 + cost.0 ≤ 10_000_000_000_000_000_000 }
+    requires { sum.0 + cost.0 ≤ max_sum }
     ensures { result.0 ≡ sum.0 + cost.0 }
 {
     Sum(sum.0 + cost.0)
@@ -164,7 +190,7 @@ pub fn at_most(left: Sum, right: Sum) -> bool
 /// The cutoff for what is left of a bound: the lesser of the full cutoff and the greater
 /// of floor and `rem` (trajectory-preserving capping; the floor is this project's own).
 pub fn cap(limits: &Limits, rem: Sum) -> Micros
-    ensures { result.0 ≡ cap_of limits.now rem.0 }
+    ensures { result.0 ≡ Costs.cap limits.now rem.0 }
 {
     Micros(limits.cutoff.0.min(limits.floor.0.max(rem.0)))
 }
@@ -176,5 +202,5 @@ pub trait World {
     type Frame;
 
     /// The table of a frame.
-    ghost outcome: { Self.Frame → Table };
+    ghost outcome: { Self.Frame → Costs.Table };
 }
