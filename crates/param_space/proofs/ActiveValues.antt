@@ -5,7 +5,7 @@ use Rattle.std.proofs.lemmas.List.{append-nil}
 use Rattle.param_space.specs.declared.lists.Param.{Param}
 use Rattle.param_space.specs.Space.{Belongs}
 use Rattle.param_space.specs.Settings.{named_values, at_places}
-use Rattle.param_space.specs.Belonging.{length-Belongs}
+use Rattle.param_space.proofs.BelongsLemmas.{length-Belongs}
 
 -- a parameter's name and the value with this number
 abbrev pub named : Param → ℕ → List ℕ × List ℕ

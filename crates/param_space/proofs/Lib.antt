@@ -1,8 +1,16 @@
-pub mod ActiveValues
-pub mod Names
-pub mod Texts
-pub mod Marking
-pub mod Ordering
-pub mod Meeting
-pub mod Checks
-pub mod Settling
+pub mod RuleLemmas
+pub mod BelongsLemmas
+pub mod SpaceSizes
+mod Counts
+mod Ranks
+mod ActiveParams
+mod SettledConfigs
+pub mod Soundness
+mod ParamMarks
+mod NameTests
+mod MetConditions
+mod RankedConditions
+mod Checks
+mod SettledValues
+mod ActiveValues
+mod SettingTexts

@@ -1,6 +1,6 @@
--- Which parameters others depend on, by the conditions of a space.
-use Rattle.std.specs.Prelude.{ℕ, zero, suc, Bool, false, ◌&&◌, ◌||◌, ◌==◌, List, length}
-use Rattle.std.specs.List.{list_any}
+-- Which parameters others depend on, by the conditions of a space, and on how many.
+use Rattle.std.specs.Prelude.{ℕ, zero, suc, ◌+◌, ◌≡◌, ◌<◌, Bool, false, ◌&&◌, ◌||◌, ◌==◌, List, length, if◌then◌else◌}
+use Rattle.std.specs.List.{All, list_any}
 use Rattle.param_space.specs.declared.lists.Condition.{Condition}
 use Rattle.param_space.specs.Space.{Lists}
 
@@ -13,3 +13,21 @@ is_ancestor_within (suc generations) conditions p a =
 -- an ancestor of the parameter p: there are no more generations than parameters
 abbrev pub is_ancestor : Lists → ℕ → ℕ → Bool
 is_ancestor lists p a = is_ancestor_within (length lists.params) lists.conditions p a
+
+-- the parameters that a condition names are below n
+pub record IsNamed (n : ℕ) (c : Condition) : Type 0 where
+  pub child : c.child < n
+  pub parent : c.parent < n
+
+-- no child of a condition is its own ancestor
+abbrev pub IsAcyclic : ℕ → List Condition → Type 0
+IsAcyclic n cs = All (λ c. is_ancestor_within n cs c.child c.child ≡ false) cs
+
+-- how many numbers below n pass a test
+unfoldable pub count : (ℕ → Bool) → ℕ → ℕ
+count f zero = 0
+count f (suc n) = count f n + (if f n then 1 else 0)
+
+-- how many ancestors a parameter has
+abbrev pub rank : ℕ → List Condition → ℕ → ℕ
+rank n cs p = count (is_ancestor_within n cs p) n

@@ -18,19 +18,19 @@ abbrev pub is_active : Lists → List ℕ → ℕ → Bool
 is_active lists config p = is_active_within (suc (length lists.params)) lists.conditions config p
 
 -- the values from a place on, with each inactive parameter at its default
-abbrev pub settled_from : Lists → List ℕ → ℕ → List Param → List ℕ → List ℕ
-settled_from lists config place [] values = []
-settled_from lists config place (p ∷ ps) [] = []
-settled_from lists config place (p ∷ ps) (v ∷ vs) =
-    (if is_active lists config place then v else p.default) ∷ settled_from lists config (place + 1) ps vs
+abbrev pub settled_values : Lists → List ℕ → ℕ → List Param → List ℕ → List ℕ
+settled_values lists config place [] values = []
+settled_values lists config place (p ∷ ps) [] = []
+settled_values lists config place (p ∷ ps) (v ∷ vs) =
+    (if is_active lists config place then v else p.default) ∷ settled_values lists config (place + 1) ps vs
 
 -- the configuration with each inactive parameter at its default
-abbrev pub settled : Lists → List ℕ → List ℕ
-settled lists config = settled_from lists config 0 lists.params config
+abbrev pub settled_config : Lists → List ℕ → List ℕ
+settled_config lists config = settled_values lists config 0 lists.params config
 
 -- each inactive parameter stands at its default
 abbrev pub is_canonical : Lists → List ℕ → Bool
-is_canonical lists config = bytes_eq (settled lists config) config
+is_canonical lists config = bytes_eq (settled_config lists config) config
 
 -- the parameter is active and has this value
 abbrev pub is_picked : Lists → List ℕ → Pick → Bool

@@ -23,8 +23,8 @@ abbrev pub active_values : Lists → List ℕ → List (List ℕ × List ℕ)
 active_values lists config = at_places (is_active lists config) 0 (named_values lists.params config)
 
 -- a name and a value as contracts see them
-abbrev pub named_by : NamedValue → List ℕ × List ℕ
-named_by s = (s.name.now, s.value.now)
+abbrev pub name_and_value : NamedValue → List ℕ × List ℕ
+name_and_value s = (s.name.now, s.value.now)
 
 -- `name=value`
 abbrev pub setting_text : List ℕ × List ℕ → List ℕ

@@ -9,6 +9,10 @@ pub record Lists : Type 0 where
   pub conditions : List Condition
   pub forbidden : List Forbidden
 
+-- these three lists
+abbrev pub space_lists : List Param → List Condition → List Forbidden → Lists
+space_lists params conditions forbidden = record { params = params; conditions = conditions; forbidden = forbidden }
+
 -- the names of the parameters
 abbrev pub names : List Param → List (List ℕ)
 names params = map (λ p. p.name) params

@@ -2,14 +2,16 @@
 ghost use Rattle.std.specs.Prelude.{ℕ, suc, All, ◌≡◌, ◌==◌, ◌<◌, ◌≤◌, ◌&&◌, not, false, [], ◌∷◌, length, slice_index_or};
 ghost use Rattle.std.specs.List.{list_any};
 ghost use Rattle.param_space.specs.Configurations.{is_active_within};
-ghost use Rattle.param_space.specs.Acyclic.{IsNamed, IsAcyclic};
+ghost use Rattle.param_space.specs.Limits;
+ghost use Rattle.param_space.specs.Ancestors.{IsNamed, IsAcyclic};
 ghost use Rattle.param_space.specs.Faults.{first_in, first_broken};
 ghost use Rattle.param_space.specs.declared.lists.SpaceWhat.TheVariants.{DefaultForbidden};
 ghost use Rattle.param_space.specs.Marks.{is_marked_by, ArePicksNamed};
 ghost use Rattle.param_space.specs.Order.{IsOrder};
 
-use crate::lists::{Condition, Forbidden, Part, SpaceFault, SpaceWhat};
-use crate::marks::{MOST_PARAMS, Marks};
+use crate::limits::MAX_PARAMS;
+use crate::lists::{Breach, Condition, Forbidden, Part, SpaceWhat};
+use crate::marks::Marks;
 
 /// Whether the condition's parent is active and has a listed value.
 fn is_met(condition: &Condition, values: &[u16], active: &Marks) -> bool
@@ -27,11 +29,11 @@ pub fn activity(conditions: &[Condition], order: &[u32], values: &[u16]) -> Mark
     requires order { IsOrder conditions.now order.now }
     requires named { All (IsNamed (length values.now)) conditions.now }
     requires acyclic { IsAcyclic (length values.now) conditions.now }
-    requires few { length values.now ≤ 256 }
-    ensures size { length result ≡ 256 }
-    ensures value { (p : ℕ) → p < 256 → slice_index_or result p false ≡ is_active_within (suc (length values.now)) conditions.now values.now p }
+    requires few { length values.now ≤ Limits.max_params }
+    ensures size { length result ≡ Limits.max_params }
+    ensures value { (p : ℕ) → p < Limits.max_params → slice_index_or result p false ≡ is_active_within (suc (length values.now)) conditions.now values.now p }
 {
-    let mut active = [true; MOST_PARAMS];
+    let mut active = [true; MAX_PARAMS];
     for i in order {
         let condition = &conditions[*i as usize];
         if !is_met(condition, values, &active) {
@@ -72,19 +74,15 @@ pub fn forbids_any(forbidden: &[Forbidden], values: &[u16], active: &Marks) -> b
 
 /// The first clause that forbids the configuration of the defaults, which has these values
 /// and marks.
-pub fn forbidding_fault(
-    forbidden: &[Forbidden],
-    values: &[u16],
-    active: &Marks,
-) -> Option<SpaceFault>
-    requires few { length forbidden.now ≤ 4096 }
+pub fn forbidding_fault(forbidden: &[Forbidden], values: &[u16], active: &Marks) -> Option<Breach>
+    requires few { length forbidden.now ≤ Limits.max_clauses }
     requires named { All (ArePicksNamed (length values.now)) forbidden.now }
     requires sizes { length values.now ≤ length active.now }
     ensures { result ≡ first_in Part.Forbidden (λ _ f. first_broken ((not (is_marked_by active.now values.now f), DefaultForbidden) ∷ [])) 0 forbidden.now }
 {
     for (i, clause) in forbidden.iter().enumerate() {
         if forbids(clause, values, active) {
-            return Some(SpaceFault::At {
+            return Some(Breach {
                 part: Part::Forbidden,
                 place: i as u32,
                 what: SpaceWhat::DefaultForbidden,

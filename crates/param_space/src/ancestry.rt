@@ -2,26 +2,27 @@
 //! stand before those of the parameters that depend on it.
 ghost use Rattle.std.specs.Prelude.{ℕ, All, ◌≡◌, ◌==◌, ◌<◌, ◌≤◌, ◌&&◌, ◌||◌, false, not, [], ◌∷◌, length, slice_index, slice_index_or, IfOk};
 ghost use Rattle.std.specs.List.{list_any};
-ghost use Rattle.param_space.specs.Ancestors.{is_ancestor_within};
-ghost use Rattle.param_space.specs.Counting.{count as count_of};
-ghost use Rattle.param_space.specs.Acyclic.{IsNamed, rank};
+ghost use Rattle.param_space.specs.Limits;
+ghost use Rattle.param_space.specs.Ancestors;
+ghost use Rattle.param_space.specs.Ancestors.{IsNamed, is_ancestor_within, rank};
 ghost use Rattle.param_space.specs.Faults.{first_in, first_broken};
 ghost use Rattle.param_space.specs.Order.{IsOrder};
 ghost use Rattle.param_space.specs.declared.lists.SpaceWhat.TheVariants.{Cycle};
 
-use crate::lists::{Condition, Part, SpaceFault, SpaceWhat};
-use crate::marks::{MOST_PARAMS, Marks};
+use crate::limits::MAX_PARAMS;
+use crate::lists::{Breach, Condition, Part, SpaceWhat};
+use crate::marks::Marks;
 use objective::Memory;
 use std::alloc::Global;
 
 /// The parents of the parameter and of the ancestors that are known.
 fn next_generation(conditions: &[Condition], param: u16, known: &Marks) -> Marks
-    requires named { All (IsNamed 256) conditions.now }
-    requires size { length known.now ≡ 256 }
-    ensures size { length result ≡ 256 }
-    ensures value { (a : ℕ) → a < 256 → slice_index_or result a false ≡ list_any (λ c. (c.parent == a) && ((c.child == param) || slice_index_or known.now c.child false)) conditions.now }
+    requires named { All (IsNamed Limits.max_params) conditions.now }
+    requires size { length known.now ≡ Limits.max_params }
+    ensures size { length result ≡ Limits.max_params }
+    ensures value { (a : ℕ) → a < Limits.max_params → slice_index_or result a false ≡ list_any (λ c. (c.parent == a) && ((c.child == param) || slice_index_or known.now c.child false)) conditions.now }
 {
-    let mut next = [false; MOST_PARAMS];
+    let mut next = [false; MAX_PARAMS];
     for condition in conditions {
         let child = condition.child;
         next[usize::from(condition.parent)] |= child == param || known[usize::from(child)];
@@ -31,11 +32,11 @@ fn next_generation(conditions: &[Condition], param: u16, known: &Marks) -> Marks
 
 /// The ancestors of the parameter, among so many.
 fn ancestors(conditions: &[Condition], count: usize, param: u16) -> Marks
-    requires { All (IsNamed 256) conditions.now }
-    ensures size { length result ≡ 256 }
-    ensures value { (a : ℕ) → a < 256 → slice_index_or result a false ≡ is_ancestor_within count conditions.now param a }
+    requires { All (IsNamed Limits.max_params) conditions.now }
+    ensures size { length result ≡ Limits.max_params }
+    ensures value { (a : ℕ) → a < Limits.max_params → slice_index_or result a false ≡ is_ancestor_within count conditions.now param a }
 {
-    let mut known = [false; MOST_PARAMS];
+    let mut known = [false; MAX_PARAMS];
     for _generation in 0..count {
         known = next_generation(conditions, param, &known);
     }
@@ -45,7 +46,7 @@ fn ancestors(conditions: &[Condition], count: usize, param: u16) -> Marks
 /// How many of the first marks are set.
 fn count_marks(marks: &Marks, count: usize) -> u32
     requires { count ≤ length marks.now }
-    ensures { result ≡ count_of (λ a. slice_index_or marks.now a false) count }
+    ensures { result ≡ Ancestors.count (λ a. slice_index_or marks.now a false) count }
 {
     let mut found = 0;
     for mark in &marks[..count] {
@@ -59,20 +60,20 @@ fn count_marks(marks: &Marks, count: usize) -> u32
 /// How many ancestors each parameter has, and whether it is one of them itself.
 #[derive(Drop)]
 pub struct Ancestry {
-    pub ranks: [u32; MOST_PARAMS],
+    pub ranks: [u32; MAX_PARAMS],
     pub own: Marks,
 }
 
 /// The ancestry of each of so many parameters.
 pub fn ancestry_of(conditions: &[Condition], count: usize) -> Ancestry
     requires named { All (IsNamed count) conditions.now }
-    requires few { count ≤ 256 }
-    ensures sizes { (length result.ranks ≡ 256) × (length result.own ≡ 256) }
+    requires few { count ≤ Limits.max_params }
+    ensures sizes { (length result.ranks ≡ Limits.max_params) × (length result.own ≡ Limits.max_params) }
     ensures ranks { (p : ℕ) → p < count → slice_index result.ranks p ≡ rank count conditions.now p }
     ensures own { (p : ℕ) → p < count → slice_index_or result.own p false ≡ is_ancestor_within count conditions.now p p }
 {
-    let mut ranks = [0; MOST_PARAMS];
-    let mut own = [false; MOST_PARAMS];
+    let mut ranks = [0; MAX_PARAMS];
+    let mut own = [false; MAX_PARAMS];
     for param in 0..count {
         let marks = ancestors(conditions, count, param as u16);
         ranks[param] = count_marks(&marks, count);
@@ -85,11 +86,11 @@ pub fn ancestry_of(conditions: &[Condition], count: usize) -> Ancestry
 pub fn ranked_order(
     alloc: Global,
     conditions: &[Condition],
-    ranks: &[u32; MOST_PARAMS],
+    ranks: &[u32; MAX_PARAMS],
 ) -> Result<Vec<u32>, Memory>
-    requires few { length conditions.now ≤ 1024 }
-    requires named { All (IsNamed 256) conditions.now }
-    requires sizes { length ranks.now ≡ 256 }
+    requires few { length conditions.now ≤ Limits.max_conditions }
+    requires named { All (IsNamed Limits.max_params) conditions.now }
+    requires sizes { length ranks.now ≡ Limits.max_params }
     requires rises { All (λ c. slice_index ranks.now c.parent < slice_index ranks.now c.child) conditions.now }
     ensures { IfOk result (λ v. IsOrder conditions.now v.items) }
 {
@@ -102,15 +103,15 @@ pub fn ranked_order(
 }
 
 /// The first condition whose child is its own ancestor.
-pub fn cycle_fault(conditions: &[Condition], own: &Marks) -> Option<SpaceFault>
-    requires few { length conditions.now ≤ 1024 }
-    requires named { All (IsNamed 256) conditions.now }
-    requires size { length own.now ≡ 256 }
+pub fn cycle_fault(conditions: &[Condition], own: &Marks) -> Option<Breach>
+    requires few { length conditions.now ≤ Limits.max_conditions }
+    requires named { All (IsNamed Limits.max_params) conditions.now }
+    requires size { length own.now ≡ Limits.max_params }
     ensures { result ≡ first_in Part.Condition (λ _ c. first_broken ((not (slice_index_or own.now c.child false), Cycle) ∷ [])) 0 conditions.now }
 {
     for (i, condition) in conditions.iter().enumerate() {
         if own[usize::from(condition.child)] {
-            return Some(SpaceFault::At {
+            return Some(Breach {
                 part: Part::Condition,
                 place: i as u32,
                 what: SpaceWhat::Cycle,

@@ -1,14 +1,17 @@
 //! Whether lists make a space.
-ghost use Rattle.std.specs.Prelude.{ℕ, ◌≡◌, ◌<◌, ◌≤◌, slice_index, None, All, length, IfOk, IfErr, OnOk};
-ghost use Rattle.param_space.specs.Acyclic.{IsNamed, IsAcyclic, rank};
-ghost use Rattle.param_space.specs.Faults.{lists_fault as fault_of_lists, whole_fault, default_fault as fault_of_default, space_fault, AreFaultless, IsCause, IsSpace};
+ghost use Rattle.std.specs.Prelude.{ℕ, ◌≡◌, ◌<◌, ◌≤◌, slice_index, Some, None, All, length, IfOk, IfErr, IfSome, OnOk};
+ghost use Rattle.param_space.specs.Limits;
+ghost use Rattle.param_space.specs.Space.{space_lists};
+ghost use Rattle.param_space.specs.Ancestors.{IsNamed, IsAcyclic, rank};
+ghost use Rattle.param_space.specs.Faults;
+ghost use Rattle.param_space.specs.Faults.{whole_fault, space_fault, breach_of, AreFaultless, IsSpace};
 ghost use Rattle.param_space.specs.Marks.{ArePicksNamed};
 ghost use Rattle.param_space.specs.Order.{IsOrder};
 
 use crate::activity::{activity, forbidding_fault};
 use crate::ancestry::{ancestry_of, cycle_fault, ranked_order};
-use crate::lists::{Condition, Forbidden, Param, SpaceFault};
-use crate::marks::MOST_PARAMS;
+use crate::limits::MAX_PARAMS;
+use crate::lists::{Breach, Condition, Forbidden, Param, SpaceFault};
 use crate::relations::{clauses_fault, conditions_fault};
 use crate::rules::params_fault;
 use objective::Memory;
@@ -16,18 +19,19 @@ use std::alloc::Global;
 
 /// The first fault of the lists, each by itself.
 fn lists_fault(
+    alloc: Global,
     params: &[Param],
     conditions: &[Condition],
     forbidden: &[Forbidden],
-) -> Option<SpaceFault>
-    ensures { result ≡ fault_of_lists (record { params = params.now; conditions = conditions.now; forbidden = forbidden.now }) }
+) -> Result<Option<Breach>, Memory>
+    ensures { IfOk result (λ b. b ≡ Faults.lists_fault (space_lists params.now conditions.now forbidden.now)) }
 {
-    if let Some(fault) = params_fault(params) {
-        return Some(fault);
+    if let Some(breach) = params_fault(alloc, params)? {
+        return Ok(Some(breach));
     }
     match conditions_fault(params, conditions) {
-        Some(fault) => Some(fault),
-        None => clauses_fault(params, forbidden),
+        Some(breach) => Ok(Some(breach)),
+        None => Ok(clauses_fault(params, forbidden)),
     }
 }
 
@@ -38,13 +42,13 @@ fn default_fault(
     conditions: &[Condition],
     order: &[u32],
     forbidden: &[Forbidden],
-) -> Result<Option<SpaceFault>, Memory>
-    requires few { (length params.now ≤ 256) × (length forbidden.now ≤ 4096) }
+) -> Result<Option<Breach>, Memory>
+    requires few { (length params.now ≤ Limits.max_params) × (length forbidden.now ≤ Limits.max_clauses) }
     requires named { All (IsNamed (length params.now)) conditions.now }
     requires picks_named { All (ArePicksNamed (length params.now)) forbidden.now }
     requires acyclic { IsAcyclic (length params.now) conditions.now }
     requires order { IsOrder conditions.now order.now }
-    ensures { IfOk result (λ f. f ≡ fault_of_default (record { params = params.now; conditions = conditions.now; forbidden = forbidden.now })) }
+    ensures { IfOk result (λ b. b ≡ Faults.default_fault (space_lists params.now conditions.now forbidden.now)) }
 {
     let values: Vec<u16> = params.iter().map(|param| param.default).collect(alloc)?;
     let active = activity(conditions, order, values.as_slice());
@@ -58,19 +62,19 @@ fn allowed_order(
     params: &[Param],
     conditions: &[Condition],
     forbidden: &[Forbidden],
-    ranks: &[u32; MOST_PARAMS],
+    ranks: &[u32; MAX_PARAMS],
 ) -> Result<Vec<u32>, SpaceFault>
-    requires faultless { AreFaultless (record { params = params.now; conditions = conditions.now; forbidden = forbidden.now }) }
+    requires faultless { AreFaultless (space_lists params.now conditions.now forbidden.now) }
     requires acyclic { IsAcyclic (length params.now) conditions.now }
-    requires size { length ranks.now ≡ 256 }
+    requires size { length ranks.now ≡ Limits.max_params }
     requires ranked { (p : ℕ) → p < length params.now → slice_index ranks.now p ≡ rank (length params.now) conditions.now p }
     ensures order { IfOk result (λ v. IsOrder conditions.now v.items) }
-    ensures allowed { OnOk result (fault_of_default (record { params = params.now; conditions = conditions.now; forbidden = forbidden.now }) ≡ None) }
-    ensures fault { IfErr result (λ e. IsCause e (fault_of_default (record { params = params.now; conditions = conditions.now; forbidden = forbidden.now }))) }
+    ensures allowed { OnOk result (Faults.default_fault (space_lists params.now conditions.now forbidden.now) ≡ None) }
+    ensures fault { IfErr result (λ e. IfSome (breach_of e) (λ b. Faults.default_fault (space_lists params.now conditions.now forbidden.now) ≡ Some b)) }
 {
     let order = ranked_order(alloc, conditions, ranks)?;
     match default_fault(alloc, params, conditions, order.as_slice(), forbidden)? {
-        Some(fault) => Err(fault),
+        Some(breach) => Err(breach.fault()),
         None => Ok(order),
     }
 }
@@ -83,14 +87,14 @@ fn whole_order(
     conditions: &[Condition],
     forbidden: &[Forbidden],
 ) -> Result<Vec<u32>, SpaceFault>
-    requires { AreFaultless (record { params = params.now; conditions = conditions.now; forbidden = forbidden.now }) }
+    requires { AreFaultless (space_lists params.now conditions.now forbidden.now) }
     ensures order { IfOk result (λ v. IsOrder conditions.now v.items) }
-    ensures space { OnOk result (IsSpace (record { params = params.now; conditions = conditions.now; forbidden = forbidden.now })) }
-    ensures fault { IfErr result (λ e. IsCause e (whole_fault (record { params = params.now; conditions = conditions.now; forbidden = forbidden.now }))) }
+    ensures space { OnOk result (IsSpace (space_lists params.now conditions.now forbidden.now)) }
+    ensures fault { IfErr result (λ e. IfSome (breach_of e) (λ b. whole_fault (space_lists params.now conditions.now forbidden.now) ≡ Some b)) }
 {
     let found = ancestry_of(conditions, params.len());
     match cycle_fault(conditions, &found.own) {
-        Some(fault) => Err(fault),
+        Some(breach) => Err(breach.fault()),
         None => allowed_order(alloc, params, conditions, forbidden, &found.ranks),
     }
 }
@@ -103,11 +107,11 @@ pub fn checked_order(
     forbidden: &[Forbidden],
 ) -> Result<Vec<u32>, SpaceFault>
     ensures order { IfOk result (λ v. IsOrder conditions.now v.items) }
-    ensures space { OnOk result (IsSpace (record { params = params.now; conditions = conditions.now; forbidden = forbidden.now })) }
-    ensures fault { IfErr result (λ e. IsCause e (space_fault (record { params = params.now; conditions = conditions.now; forbidden = forbidden.now }))) }
+    ensures space { OnOk result (IsSpace (space_lists params.now conditions.now forbidden.now)) }
+    ensures fault { IfErr result (λ e. IfSome (breach_of e) (λ b. space_fault (space_lists params.now conditions.now forbidden.now) ≡ Some b)) }
 {
-    match lists_fault(params, conditions, forbidden) {
-        Some(fault) => Err(fault),
+    match lists_fault(alloc, params, conditions, forbidden)? {
+        Some(breach) => Err(breach.fault()),
         None => whole_order(alloc, params, conditions, forbidden),
     }
 }

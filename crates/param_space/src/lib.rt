@@ -6,6 +6,7 @@ mod ancestry;
 mod checking;
 mod config;
 mod copies;
+mod limits;
 mod lists;
 mod marks;
 mod relations;
@@ -14,9 +15,7 @@ mod settings;
 mod space;
 
 pub use config::Config;
+pub use limits::{MAX_CLAUSES, MAX_CONDITIONS, MAX_PARAMS, MAX_PICKS, MAX_VALUES};
 pub use lists::{Condition, Forbidden, Param, Part, Pick, SpaceFault, SpaceWhat};
 pub use settings::NamedValue;
 pub use space::Space;
-
-#[cfg(test)]
-mod tests;

@@ -1,5 +1,6 @@
 //! The parts of a parameter space, and its faults.
-ghost use Rattle.std.specs.Prelude.{◌≡◌, IfOk};
+ghost use Rattle.std.specs.Prelude.{◌≡◌, Some, IfOk};
+ghost use Rattle.param_space.specs.Faults.{breach_of};
 ghost use Rattle.param_space.specs.declared.lists.SpaceFault.TheVariants.{Memory as NoMemory};
 
 use objective::Memory;
@@ -105,7 +106,7 @@ pub enum Part {
 pub enum SpaceWhat {
     /// There is no parameter.
     NoParameters,
-    /// More than 256 parameters or 256 values of one; or past another list's limit.
+    /// More parameters, values of one, conditions, clauses or picks of one than there may be.
     TooMany,
     /// A name or a value is not one or more word characters.
     BadWord,
@@ -125,6 +126,30 @@ pub enum SpaceWhat {
     Cycle,
     /// A clause forbids the default configuration.
     DefaultForbidden,
+}
+
+/// A broken rule of a space.
+#[derive(Clone, Copy)]
+pub(crate) struct Breach {
+    /// The list.
+    pub(crate) part: Part,
+    /// The place in it, from 0; 0 for the whole.
+    pub(crate) place: u32,
+    /// The rule.
+    pub(crate) what: SpaceWhat,
+}
+
+impl Breach {
+    /// The fault that tells of it.
+    pub(crate) fn fault(self) -> SpaceFault
+        ensures { breach_of result ≡ Some self }
+    {
+        SpaceFault::At {
+            part: self.part,
+            place: self.place,
+            what: self.what,
+        }
+    }
 }
 
 /// Why lists make no space.

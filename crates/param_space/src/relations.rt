@@ -2,13 +2,14 @@
 ghost use Rattle.std.specs.Prelude.{◌≡◌, ◌==◌, map, nat_lt, length};
 ghost use Rattle.std.specs.List.{list_any, list_all};
 ghost use Rattle.param_space.specs.Space.{value_count};
-ghost use Rattle.param_space.specs.Faults.{numbers_differ as differ, condition_fault as condition_fault_of, clause_fault as clause_fault_of, conditions_fault as fault_of_conditions, clauses_fault as fault_of_clauses};
+ghost use Rattle.param_space.specs.Faults;
 
-use crate::lists::{Condition, Forbidden, Param, Part, Pick, SpaceFault, SpaceWhat};
+use crate::limits::{MAX_CLAUSES, MAX_CONDITIONS, MAX_PICKS};
+use crate::lists::{Breach, Condition, Forbidden, Param, Part, Pick, SpaceWhat};
 
 /// Whether no two of the numbers are equal.
 fn numbers_differ(numbers: &[u16]) -> bool
-    ensures { result ≡ differ numbers.now }
+    ensures { result ≡ Faults.numbers_differ numbers.now }
 {
     for (i, number) in numbers.iter().enumerate() {
         if numbers[i + 1..].contains(number) {
@@ -42,11 +43,11 @@ fn has_values(params: &[Param], param: u16, values: &[u16]) -> bool
 
 /// The first rule that the condition at this place breaks.
 fn condition_fault(params: &[Param], place: usize, condition: &Condition) -> Option<SpaceWhat>
-    ensures { result ≡ condition_fault_of params.now place condition.now }
+    ensures { result ≡ Faults.condition_fault params.now place condition.now }
 {
     let values = condition.values.as_slice();
     let (child, parent) = (usize::from(condition.child), usize::from(condition.parent));
-    if place >= 1024 {
+    if place >= MAX_CONDITIONS {
         Some(SpaceWhat::TooMany)
     } else if values.is_empty() {
         Some(SpaceWhat::NoValues)
@@ -62,12 +63,12 @@ fn condition_fault(params: &[Param], place: usize, condition: &Condition) -> Opt
 }
 
 /// The first fault of the conditions.
-pub fn conditions_fault(params: &[Param], conditions: &[Condition]) -> Option<SpaceFault>
-    ensures { result ≡ fault_of_conditions params.now conditions.now }
+pub fn conditions_fault(params: &[Param], conditions: &[Condition]) -> Option<Breach>
+    ensures { result ≡ Faults.conditions_fault params.now conditions.now }
 {
     for (i, condition) in conditions.iter().enumerate() {
         if let Some(what) = condition_fault(params, i, condition) {
-            return Some(SpaceFault::At {
+            return Some(Breach {
                 part: Part::Condition,
                 place: i as u32,
                 what,
@@ -91,7 +92,7 @@ fn has_param(picks: &[Pick], param: u16) -> bool
 
 /// Whether no two of the picks are of one parameter.
 fn params_differ(picks: &[Pick]) -> bool
-    ensures { result ≡ differ (map (λ k. k.param) picks.now) }
+    ensures { result ≡ Faults.numbers_differ (map (λ k. k.param) picks.now) }
 {
     for (i, pick) in picks.iter().enumerate() {
         if has_param(&picks[i + 1..], pick.param) {
@@ -127,10 +128,10 @@ fn are_values(params: &[Param], picks: &[Pick]) -> bool
 
 /// The first rule that the forbidden clause at this place breaks.
 fn clause_fault(params: &[Param], place: usize, clause: &Forbidden) -> Option<SpaceWhat>
-    ensures { result ≡ clause_fault_of params.now place clause.now }
+    ensures { result ≡ Faults.clause_fault params.now place clause.now }
 {
     let picks = clause.picks.as_slice();
-    if place >= 4096 || picks.len() > 16 {
+    if place >= MAX_CLAUSES || picks.len() > MAX_PICKS {
         Some(SpaceWhat::TooMany)
     } else if picks.is_empty() {
         Some(SpaceWhat::NoValues)
@@ -146,12 +147,12 @@ fn clause_fault(params: &[Param], place: usize, clause: &Forbidden) -> Option<Sp
 }
 
 /// The first fault of the forbidden clauses.
-pub fn clauses_fault(params: &[Param], forbidden: &[Forbidden]) -> Option<SpaceFault>
-    ensures { result ≡ fault_of_clauses params.now forbidden.now }
+pub fn clauses_fault(params: &[Param], forbidden: &[Forbidden]) -> Option<Breach>
+    ensures { result ≡ Faults.clauses_fault params.now forbidden.now }
 {
     for (i, clause) in forbidden.iter().enumerate() {
         if let Some(what) = clause_fault(params, i, clause) {
-            return Some(SpaceFault::At {
+            return Some(Breach {
                 part: Part::Forbidden,
                 place: i as u32,
                 what,

@@ -1,24 +1,15 @@
 //! The rules that the parameters of a space keep.
-ghost use Rattle.std.specs.Prelude.{◌≡◌, [], map, bytes_eq};
+ghost use Rattle.std.specs.Prelude.{◌≡◌, IfOk, map, bytes_eq};
 ghost use Rattle.std.specs.List.{list_any, list_all};
-ghost use Rattle.plain_text.specs.Words.{is_word as word};
+ghost use Rattle.plain_text.specs.Words;
 ghost use Rattle.param_space.specs.Space.{names};
-ghost use Rattle.param_space.specs.Faults.{texts_differ as differ, param_fault as fault_of, params_fault as fault};
+ghost use Rattle.param_space.specs.Faults;
 
-use crate::lists::{Param, Part, SpaceFault, SpaceWhat};
-use plain_text::{Text, is_word};
-
-/// Whether the text stands among these.
-fn has_text(texts: &[Text], text: &str) -> bool
-    ensures { result ≡ list_any (bytes_eq text.now) texts.now }
-{
-    for other in texts {
-        if text == other.as_str() {
-            return true;
-        }
-    }
-    false
-}
+use crate::limits::{MAX_PARAMS, MAX_VALUES};
+use crate::lists::{Breach, Param, Part, SpaceWhat};
+use objective::Memory;
+use plain_text::{Text, is_word, texts_differ};
+use std::alloc::Global;
 
 /// Whether one of the parameters has this name.
 fn has_name(params: &[Param], name: &str) -> bool
@@ -34,7 +25,7 @@ fn has_name(params: &[Param], name: &str) -> bool
 
 /// Whether all the texts are words.
 fn all_words(texts: &[Text]) -> bool
-    ensures { result ≡ list_all word texts.now }
+    ensures { result ≡ list_all Words.is_word texts.now }
 {
     for text in texts {
         if !is_word(text.as_str()) {
@@ -44,59 +35,52 @@ fn all_words(texts: &[Text]) -> bool
     true
 }
 
-/// Whether no two of the texts are equal.
-fn texts_differ(texts: &[Text]) -> bool
-    ensures { result ≡ differ texts.now }
-{
-    for (i, text) in texts.iter().enumerate() {
-        if has_text(&texts[i + 1..], text.as_str()) {
-            return false;
-        }
-    }
-    true
-}
-
 /// The first rule that the parameter at this place breaks, after these parameters.
-fn param_fault(earlier: &[Param], place: usize, param: &Param) -> Option<SpaceWhat>
-    ensures { result ≡ fault_of (names earlier.now) place param.now }
+fn param_fault(
+    alloc: Global,
+    earlier: &[Param],
+    place: usize,
+    param: &Param,
+) -> Result<Option<SpaceWhat>, Memory>
+    ensures { IfOk result (λ what. what ≡ Faults.param_fault (names earlier.now) place param.now) }
 {
     let values = param.values.as_slice();
-    if place >= 256 || values.len() > 256 {
-        Some(SpaceWhat::TooMany)
+    if place >= MAX_PARAMS || values.len() > MAX_VALUES {
+        Ok(Some(SpaceWhat::TooMany))
     } else if !is_word(param.name.as_str()) || !all_words(values) {
-        Some(SpaceWhat::BadWord)
+        Ok(Some(SpaceWhat::BadWord))
     } else if has_name(earlier, param.name.as_str()) {
-        Some(SpaceWhat::DoubleName)
+        Ok(Some(SpaceWhat::DoubleName))
     } else if values.is_empty() {
-        Some(SpaceWhat::NoValues)
-    } else if !texts_differ(values) {
-        Some(SpaceWhat::DoubleValue)
+        Ok(Some(SpaceWhat::NoValues))
+    } else if !texts_differ(alloc, values)? {
+        Ok(Some(SpaceWhat::DoubleValue))
     } else if usize::from(param.default) >= values.len() {
-        Some(SpaceWhat::BadDefault)
+        Ok(Some(SpaceWhat::BadDefault))
     } else {
-        None
+        Ok(None)
     }
 }
 
 /// The first fault of the parameters.
-pub fn params_fault(params: &[Param]) -> Option<SpaceFault>
-    ensures { result ≡ fault params.now }
+pub fn params_fault(alloc: Global, params: &[Param]) -> Result<Option<Breach>, Memory>
+    ensures { IfOk result (λ breach. breach ≡ Faults.params_fault params.now) }
 {
     if params.is_empty() {
-        return Some(SpaceFault::At {
+        return Ok(Some(Breach {
             part: Part::Whole,
             place: 0,
             what: SpaceWhat::NoParameters,
-        });
+        }));
     }
     for (i, param) in params.iter().enumerate() {
-        if let Some(what) = param_fault(&params[..i], i, param) {
-            return Some(SpaceFault::At {
+        if let Some(what) = param_fault(alloc, &params[..i], i, param)? {
+            return Ok(Some(Breach {
                 part: Part::Param,
                 place: i as u32,
                 what,
-            });
+            }));
         }
     }
-    None
+    Ok(None)
 }

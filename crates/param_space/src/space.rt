@@ -1,9 +1,12 @@
 //! Spaces.
-ghost use Rattle.std.specs.Prelude.{ℕ, ◌≡◌, ◌<◌, ◌≤◌, ◌++◌, true, false, slice_index_or, OnOk, OnErr, IfOk, IfErr, None, length, map};
-ghost use Rattle.param_space.specs.Space.{defaults, Belongs};
-ghost use Rattle.param_space.specs.Faults.{space_fault, IsCause, IsSpace};
-ghost use Rattle.param_space.specs.Configurations.{is_active as active, settled, is_canonical as canonical, is_allowed as allowed, IsConfig};
-ghost use Rattle.param_space.specs.Settings.{named_by, active_values as values_of, settings_text};
+ghost use Rattle.std.specs.Prelude.{ℕ, ◌≡◌, ◌<◌, ◌≤◌, ◌++◌, true, false, slice_index_or, OnOk, OnErr, IfOk, IfErr, IfSome, Some, None, length, map};
+ghost use Rattle.param_space.specs.Limits;
+ghost use Rattle.param_space.specs.Space.{space_lists, defaults, Belongs};
+ghost use Rattle.param_space.specs.Faults.{space_fault, breach_of, IsSpace};
+ghost use Rattle.param_space.specs.Configurations;
+ghost use Rattle.param_space.specs.Configurations.{settled_config, IsConfig};
+ghost use Rattle.param_space.specs.Settings;
+ghost use Rattle.param_space.specs.Settings.{name_and_value, settings_text};
 
 use crate::activity::{activity, forbids_any};
 use crate::checking::checked_order;
@@ -29,15 +32,15 @@ pub struct Space {
 }
 
 impl Model for Space {
-    ghost use Rattle.param_space.specs.Space.{Lists};
+    ghost use Rattle.param_space.specs.Space.{Lists, space_lists};
     ghost use Rattle.param_space.specs.Faults.{IsSpace};
     ghost use Rattle.param_space.specs.Order.{IsOrder};
 
     ghost Value = { Lists };
 
-    ghost view = { λ s. record { params = s.params; conditions = s.conditions; forbidden = s.forbidden } };
+    ghost view = { λ s. space_lists s.params s.conditions s.forbidden };
 
-    ghost invariant = { λ s. IsSpace (record { params = s.params; conditions = s.conditions; forbidden = s.forbidden }) × IsOrder s.conditions s.order };
+    ghost invariant = { λ s. IsSpace (space_lists s.params s.conditions s.forbidden) × IsOrder s.conditions s.order };
 }
 
 impl Space {
@@ -50,9 +53,9 @@ impl Space {
         conditions: Vec<Condition>,
         forbidden: Vec<Forbidden>,
     ) -> Result<Space, SpaceFault>
-        ensures ok { IfOk result (λ s. s ≡ record { params = params.items; conditions = conditions.items; forbidden = forbidden.items }) }
-        ensures sound { OnOk result (space_fault (record { params = params.items; conditions = conditions.items; forbidden = forbidden.items }) ≡ None) }
-        ensures fault { IfErr result (λ e. IsCause e (space_fault (record { params = params.items; conditions = conditions.items; forbidden = forbidden.items }))) }
+        ensures ok { IfOk result (λ s. s ≡ space_lists params.items conditions.items forbidden.items) }
+        ensures sound { OnOk result (space_fault (space_lists params.items conditions.items forbidden.items) ≡ None) }
+        ensures fault { IfErr result (λ e. IfSome (breach_of e) (λ b. space_fault (space_lists params.items conditions.items forbidden.items) ≡ Some b)) }
     {
         let order = checked_order(
             alloc,
@@ -95,11 +98,11 @@ impl Space {
     /// Marks the active parameters of a configuration.
     fn marks(&self, config: &Config) -> Marks
         requires { Belongs self.now.params config.now }
-        ensures size { length result ≡ 256 }
-        ensures value { (p : ℕ) → p < 256 → slice_index_or result p false ≡ active self.now config.now p }
+        ensures size { length result ≡ Limits.max_params }
+        ensures value { (p : ℕ) → p < Limits.max_params → slice_index_or result p false ≡ Configurations.is_active self.now config.now p }
         ensures space { IsSpace self.now }
         ensures long { length config.now ≡ length self.now.params }
-        ensures few { length self.now.params ≤ 256 }
+        ensures few { length self.now.params ≤ Limits.max_params }
     {
         let conditions = self.conditions.as_slice();
         activity(conditions, self.order.as_slice(), config.values())
@@ -110,7 +113,7 @@ impl Space {
     pub fn is_active(&self, config: &Config, param: u16) -> bool
         requires belongs { Belongs self.now.params config.now }
         requires in_range { param < length self.now.params }
-        ensures { result ≡ active self.now config.now param }
+        ensures { result ≡ Configurations.is_active self.now config.now param }
     {
         self.marks(config)[usize::from(param)]
     }
@@ -118,9 +121,9 @@ impl Space {
     /// Puts each inactive parameter at its default. Takes no memory.
     pub fn settle(&self, config: &mut Config)
         requires { Belongs self.now.params config.old }
-        ensures value { config.new ≡ settled self.now config.old }
+        ensures value { config.new ≡ settled_config self.now config.old }
         ensures belongs { Belongs self.now.params config.new }
-        ensures sound { allowed self.now config.new ≡ true → IsConfig self.now config.new }
+        ensures sound { Configurations.is_allowed self.now config.new ≡ true → IsConfig self.now config.new }
     {
         let active = self.marks(config);
         for (i, param) in self.params.as_slice().iter().enumerate() {
@@ -133,7 +136,7 @@ impl Space {
     /// Whether each inactive parameter stands at its default. Takes no memory.
     pub fn is_canonical(&self, config: &Config) -> bool
         requires { Belongs self.now.params config.now }
-        ensures { result ≡ canonical self.now config.now }
+        ensures { result ≡ Configurations.is_canonical self.now config.now }
     {
         let active = self.marks(config);
         let values = config.values();
@@ -149,7 +152,7 @@ impl Space {
     /// counts only where its parameter is active. Takes no memory.
     pub fn is_allowed(&self, config: &Config) -> bool
         requires { Belongs self.now.params config.now }
-        ensures { result ≡ allowed self.now config.now }
+        ensures { result ≡ Configurations.is_allowed self.now config.now }
     {
         let active = self.marks(config);
         !forbids_any(self.forbidden.as_slice(), config.values(), &active)
@@ -183,7 +186,7 @@ impl Space {
     /// Each active parameter's name and its value, in order.
     pub fn active_values(&self, config: &Config) -> Result<Vec<NamedValue<'_>>, Memory>
         requires { Belongs self.now.params config.now }
-        ensures { IfOk result (λ v. map named_by v.items ≡ values_of self.now config.now) }
+        ensures { IfOk result (λ v. map name_and_value v.items ≡ Settings.active_values self.now config.now) }
     {
         let alloc = *self.params.allocator();
         let active = self.marks(config);
@@ -194,7 +197,7 @@ impl Space {
     /// there is no memory left, nothing is appended.
     pub fn push_settings(&self, config: &Config, out: &mut Vec<u8>) -> Result<(), Memory>
         requires { Belongs self.now.params config.now }
-        ensures ok { OnOk result (out.new.items ≡ out.old.items ++ settings_text (values_of self.now config.now)) }
+        ensures ok { OnOk result (out.new.items ≡ out.old.items ++ settings_text (Settings.active_values self.now config.now)) }
         ensures err { OnErr result (out.new.items ≡ out.old.items) }
     {
         let alloc = *self.params.allocator();

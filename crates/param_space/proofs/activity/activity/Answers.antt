@@ -2,18 +2,19 @@ use Rattle.std.proofs.Common.{suc, ◌≡◌, ◌<◌, ◌≤◌, ◌∙◌, ari
 use Rattle.std.specs.List.{list_all, slice_index_or}
 use Rattle.std.proofs.lemmas.Grind.{common_steps}
 use Rattle.std.proofs.lemmas.List.{get_or_read, get_or-replicate, length-map}
+use Rattle.param_space.specs.Limits
 use Rattle.param_space.specs.Configurations.{is_active_within}
-use Rattle.param_space.specs.Acyclic.{IsNamed}
-use Rattle.param_space.specs.Activity.{is_met}
+use Rattle.param_space.specs.Ancestors.{IsNamed}
+use Rattle.param_space.proofs.ActiveParams.{is_met}
 use Rattle.param_space.specs.Order.{no_condition, condition_at, in_order}
-use Rattle.param_space.proofs.Meeting.{IsGoneThrough, turn_is, met_told, met_said, unmet_said, all_said}
+use Rattle.param_space.proofs.MetConditions.{IsGoneThrough, turn_is, met_told, met_said, unmet_said, all_said}
 use Rattle.param_space.proofs.activity.activity.Goals as goal
 use Rattle.param_space.proofs.activity.activity.Goals.{then-not-is_met, else-not-is_met}
 
 pub loop-i-init : goal.loop-i-init
 loop-i-init c = record {
   size = refl;
-  value = λ p lt. get_or-replicate 256 p true false lt;
+  value = λ p lt. get_or-replicate Limits.max_params p true false lt;
 }
 
 pub loop-i-preserved : goal.loop-i-preserved
@@ -30,8 +31,8 @@ loop-i-preserved c =
     let turn : it ≡ condition_at (in_order cs order) i = turn_is cs order i number it c.loop-i-test.true refl read in
     let here : IsNamed n it = subst (IsNamed n) (sym read) (c.requires.named number no_condition within) in
     let known : IsGoneThrough n cs order = record { named = c.requires.named; acyclic = c.requires.acyclic; ordered = c.requires.order } in
-    let parent : it.parent < 256 = omega (arith, here.parent, c.requires.few) in
-    let child : it.child < 256 = omega (arith, here.child, c.requires.few) in
+    let parent : it.parent < Limits.max_params = omega (arith, here.parent, c.requires.few) in
+    let child : it.child < Limits.max_params = omega (arith, here.child, c.requires.few) in
     let told = met_told n cs order config i it c.loop-i.active c.is_met.result known c.loop-i-test.true turn c.loop-i.invariant.value parent c.is_met.ensures in
     elim c.if-not-is_met.branch [
       | then-not-is_met w ↦ record {

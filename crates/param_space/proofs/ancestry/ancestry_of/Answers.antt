@@ -1,9 +1,9 @@
 use Rattle.std.proofs.Common.{arith, false, ◌∙◌}
 use Rattle.std.specs.List.{slice_index_or}
 use Rattle.std.proofs.lemmas.Grind.{common_steps}
-use Rattle.param_space.specs.Ancestors.{is_ancestor_within}
-use Rattle.param_space.specs.Acyclic.{rank}
-use Rattle.param_space.proofs.Marking.{count_alike, set_below, mark_below}
+use Rattle.param_space.specs.Ancestors.{is_ancestor_within, rank}
+use Rattle.param_space.proofs.Counts.{count_alike}
+use Rattle.param_space.proofs.ParamMarks.{set_below, mark_below}
 use Rattle.param_space.proofs.ancestry.ancestry_of.Goals as goal
 
 pub loop-param-preserved : goal.loop-param-preserved

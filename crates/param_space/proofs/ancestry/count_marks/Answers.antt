@@ -1,8 +1,7 @@
 use Rattle.std.proofs.Common.{arith, false, sym}
 use Rattle.std.specs.List.{slice_index_or}
 use Rattle.std.proofs.lemmas.Grind.{common_steps}
-use Rattle.param_space.specs.Counting.{count-le}
-use Rattle.param_space.proofs.Marking.{count_start, count_one, count_none}
+use Rattle.param_space.proofs.Counts.{count-le, count_start, count_one, count_none}
 use Rattle.param_space.proofs.ancestry.count_marks.Goals as goal
 use Rattle.param_space.proofs.ancestry.count_marks.Goals.{then-mark, else-mark}
 

@@ -1,6 +1,6 @@
 use Rattle.std.proofs.Common.{◌≡◌, false}
 use Rattle.std.specs.List.{slice_index_or}
-use Rattle.param_space.specs.Counting.{count}
+use Rattle.param_space.specs.Ancestors.{count}
 use Rattle.param_space.proofs.ancestry.count_marks.Given as goal
 
 -- the marks so far are counted

@@ -1,7 +1,7 @@
 use Rattle.std.proofs.Common.{rules, ◌≡◌, ◌∙◌, map, length, slice_index, sym, subst, ap, arith}
 use Rattle.std.proofs.lemmas.List.{get_or_read}
 use Rattle.param_space.specs.Order.{no_condition, IsOrder}
-use Rattle.param_space.proofs.Ordering.{ranked_pairs, ranked_more, sorted_is_order}
+use Rattle.param_space.proofs.RankedConditions.{ranked_pairs, ranked_more, sorted_is_order}
 use Rattle.param_space.proofs.ancestry.ranked_order.Goals as goal
 
 pub loop-i-preserved : goal.loop-i-preserved

@@ -1,5 +1,5 @@
 use Rattle.std.proofs.Common.{◌≡◌}
-use Rattle.param_space.proofs.Ordering.{ranked_pairs}
+use Rattle.param_space.proofs.RankedConditions.{ranked_pairs}
 use Rattle.param_space.proofs.ancestry.ranked_order.Given as goal
 
 -- the conditions so far stand with the ranks of their children

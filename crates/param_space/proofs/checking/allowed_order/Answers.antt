@@ -1,8 +1,8 @@
 use Rattle.std.proofs.Common.{length}
-use Rattle.param_space.specs.Belonging.{few_params}
-use Rattle.param_space.specs.Soundness.{faultless_named, few_conditions, faultless_picks, few_clauses}
+use Rattle.param_space.proofs.SpaceSizes.{few_params, few_conditions, few_clauses}
+use Rattle.param_space.proofs.Soundness.{faultless_named, faultless_picks}
 use Rattle.param_space.proofs.Checks.{ranks_rise}
-use Rattle.param_space.proofs.Marking.{named_weaker}
+use Rattle.param_space.proofs.ParamMarks.{named_weaker}
 use Rattle.param_space.proofs.checking.allowed_order.Goals as goal
 
 pub ranked_order-requires-clause-few : goal.ranked_order-requires-clause-few

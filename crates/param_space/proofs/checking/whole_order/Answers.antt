@@ -1,11 +1,11 @@
 use Rattle.std.proofs.Common.{◌≡◌, ◌∙◌, Some, None, length, sym, ap}
 use Rattle.std.proofs.lemmas.Result.{on_ok_weaker}
 use Rattle.param_space.specs.Space.{Lists}
-use Rattle.param_space.specs.Belonging.{few_params}
+use Rattle.param_space.proofs.SpaceSizes.{few_params, few_conditions}
 use Rattle.param_space.specs.Faults.{or_else, cycle_fault, default_fault, whole_fault}
-use Rattle.param_space.specs.Soundness.{faultless_named, few_conditions, faultless_acyclic}
+use Rattle.param_space.proofs.Soundness.{faultless_named, faultless_acyclic}
 use Rattle.param_space.proofs.Checks.{cycle_told, is_space, cause_found, cause_kept}
-use Rattle.param_space.proofs.Marking.{named_weaker}
+use Rattle.param_space.proofs.ParamMarks.{named_weaker}
 use Rattle.param_space.proofs.checking.whole_order.Goals as goal
 
 pub ancestry_of-found-requires-clause-named : goal.ancestry_of-found-requires-clause-named
@@ -31,8 +31,8 @@ pub returns-in-Some-clause-fault : goal.returns-in-Some-clause-fault
 returns-in-Some-clause-fault c =
     let lists : Lists = record { params = c.args.params.now; conditions = c.args.conditions.now; forbidden = c.args.forbidden.now } in
     let told = cycle_told lists c.ancestry_of-found.result.own (faultless_named lists.params lists.conditions c.requires.conditions) c.ancestry_of-found.ensures.own in
-    let found : cycle_fault lists ≡ Some c.in-Some.fault = sym told ∙ sym c.cycle_fault.ensures ∙ c.in-Some.is in
-    cause_found c.in-Some.fault (whole_fault lists) (ap (λ first. or_else first (default_fault lists)) found)
+    let found : cycle_fault lists ≡ Some c.in-Some.breach = sym told ∙ sym c.cycle_fault.ensures ∙ c.in-Some.is in
+    cause_found c.fault.result c.in-Some.breach (whole_fault lists) c.fault.ensures (ap (λ first. or_else first (default_fault lists)) found)
 
 pub returns-in-None-clause-space : goal.returns-in-None-clause-space
 returns-in-None-clause-space c =

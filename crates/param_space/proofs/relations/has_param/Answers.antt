@@ -1,7 +1,7 @@
 use Rattle.std.proofs.Common.{arith, ◌≡◌, ◌∙◌, sym, ◌==◌, true, false}
 use Rattle.std.proofs.lemmas.Grind.{common_steps}
 use Rattle.std.specs.List.{list_any}
-use Rattle.param_space.proofs.Names.{list_any-map}
+use Rattle.param_space.proofs.NameTests.{list_any-map}
 use Rattle.param_space.proofs.relations.has_param.Goals as goal
 
 pub returns-then-param-pick : goal.returns-then-param-pick

@@ -1,10 +1,10 @@
 use Rattle.std.proofs.Common.{◌∙◌, ◌∷◌, [], false, arith, sym, ap, get_or, map}
 use Rattle.std.specs.List.{slice_index_or}
 use Rattle.std.proofs.lemmas.List.{map-append}
-use Rattle.param_space.specs.Settings.{named_by}
-use Rattle.param_space.specs.Belonging.{length-Belongs, read_value_in_range}
+use Rattle.param_space.specs.Settings.{name_and_value}
+use Rattle.param_space.proofs.BelongsLemmas.{length-Belongs, read_value_in_range}
 use Rattle.param_space.proofs.ActiveValues.{failing_more, until_all}
-use Rattle.param_space.proofs.Texts.{one_read}
+use Rattle.param_space.proofs.SettingTexts.{one_read}
 use Rattle.param_space.proofs.settings.marked_values.Goals as goal
 use Rattle.param_space.proofs.settings.marked_values.Goals.{then-active-i+in_ok-push, else-active-i}
 
@@ -20,8 +20,8 @@ pub loop-i-preserved : goal.loop-i-preserved
 loop-i-preserved c =
     elim c.if-active-i.branch [
       | then-active-i+in_ok-push w ↦
-          ap (λ v. map named_by v.items) w.found-is ∙ ap (map named_by) w.in_ok-push.ensures.items
-          ∙ map-append named_by c.loop-i.found.items (record { name = w.as_str.result; value = w.as_str-then-active-i.result } ∷ [])
+          ap (λ v. map name_and_value v.items) w.found-is ∙ ap (map name_and_value) w.in_ok-push.ensures.items
+          ∙ map-append name_and_value c.loop-i.found.items (record { name = w.as_str.result; value = w.as_str-then-active-i.result } ∷ [])
           ∙ one_read c.args.active.now c.args.params.now c.args.values.now c.loop-i.i c.index-params-i.result w.as_slice.result.now w.index-as_slice-from.result w.as_str.result.now w.as_str-then-active-i.result.now _ (record {
             belongs = c.requires.belongs;
             within = c.loop-i-test.true;
@@ -33,7 +33,7 @@ loop-i-preserved c =
             marked = w.if-active-i.true;
           }) c.loop-i.invariant
       | else-active-i w ↦
-          ap (λ v. map named_by v.items) w.found-is ∙ c.loop-i.invariant
+          ap (λ v. map name_and_value v.items) w.found-is ∙ c.loop-i.invariant
           ∙ sym (failing_more (λ k. slice_index_or c.args.active.now k false) c.args.params.now c.args.values.now c.loop-i.i c.index-params-i.result c.requires.belongs c.loop-i-test.true w.if-active-i.false)
     ]
 

@@ -1,6 +1,6 @@
 use Rattle.std.proofs.Common.{◌∙◌, ap}
 use Rattle.std.proofs.lemmas.Result.{IfOk-weaker}
-use Rattle.param_space.proofs.Texts.{active_marked}
+use Rattle.param_space.proofs.SettingTexts.{active_marked}
 use Rattle.param_space.proofs.space.Space.active_values.Goals as goal
 
 pub returns : goal.returns

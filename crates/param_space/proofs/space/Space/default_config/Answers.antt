@@ -2,8 +2,8 @@ use Rattle.std.proofs.Common.{◌≡◌, rules, sym, subst}
 use Rattle.param_space.specs.Space.{defaults, Belongs}
 use Rattle.param_space.specs.Faults.{IsSpace}
 use Rattle.param_space.specs.Configurations.{IsConfig}
-use Rattle.param_space.specs.Belonging.{Belongs-defaults}
-use Rattle.param_space.specs.Soundness.{default_is_config}
+use Rattle.param_space.proofs.BelongsLemmas.{Belongs-defaults}
+use Rattle.param_space.proofs.Soundness.{default_is_config}
 use Rattle.param_space.proofs.space.Space.default_config.Goals as goal
 
 pub returns-clause-belongs : goal.returns-clause-belongs

@@ -1,7 +1,7 @@
 use Rattle.std.proofs.Common.{◌<◌, ◌≤◌, ◌∙◌, arith, length, take_all, get_or, sym, ap}
 use Rattle.std.proofs.lemmas.List.{take_more_same}
-use Rattle.param_space.specs.Configurations.{settled}
-use Rattle.param_space.proofs.Settling.{length-settled, active_same, default_same, other_value, not_canonical, all_canonical}
+use Rattle.param_space.specs.Configurations.{settled_config}
+use Rattle.param_space.proofs.SettledValues.{length-settled, active_same, default_same, other_value, not_canonical, all_canonical}
 use Rattle.param_space.proofs.space.Space.is_canonical.Goals as goal
 use Rattle.param_space.proofs.space.Space.is_canonical.Goals.{else-not-active-i-via-then-not-active-i+else-values-i, else-not-active-i-via-else-not-active-i}
 
@@ -24,7 +24,7 @@ loop-i-preserved c =
     let read = c.as_slice-param-items.ensures ∙ ap (λ l. l.params) c.self.view_is in
     let is = c.param-item.is ∙ ap (λ ps. get_or ps i c.param-item.result) read in
     let within : c.loop-i.i < length lists.params = omega (arith, c.loop-i-test.true, ap length read) in
-    let more = take_more_same (settled lists config) config i 0 (omega (arith, within, length-settled lists config c.requires)) (omega (arith, within, c.marks-active.ensures.long)) c.loop-i.invariant in
+    let more = take_more_same (settled_config lists config) config i 0 (omega (arith, within, length-settled lists config c.requires)) (omega (arith, within, c.marks-active.ensures.long)) c.loop-i.invariant in
     elim c.else-not-active-i.branch [
       | else-not-active-i-via-then-not-active-i+else-values-i w ↦
           more (default_same lists config c.marks-active.result i c.param-item.result c.requires c.marks-active.ensures.value c.marks-active.ensures.few within is w.if-not-active-i.true
@@ -41,4 +41,4 @@ returns c =
     let params = ap length (c.as_slice-param-items.ensures ∙ ap (λ l. l.params) c.self.view_is) in
     let end : length lists.params ≤ i = omega (arith, c.loop-i-test.false, params) in
     sym (all_canonical lists config
-    (sym (take_all i (settled lists config) (omega (arith, end, length-settled lists config c.requires))) ∙ c.loop-i.invariant ∙ take_all i config (omega (arith, end, c.marks-active.ensures.long))))
+    (sym (take_all i (settled_config lists config) (omega (arith, end, length-settled lists config c.requires))) ∙ c.loop-i.invariant ∙ take_all i config (omega (arith, end, c.marks-active.ensures.long))))

@@ -1,6 +1,7 @@
 use Rattle.std.proofs.Common.{◌∙◌, subst, ap}
 use Rattle.param_space.specs.Faults.{IsSpace}
-use Rattle.param_space.specs.Belonging.{length-Belongs, few_params}
+use Rattle.param_space.proofs.BelongsLemmas.{length-Belongs}
+use Rattle.param_space.proofs.SpaceSizes.{few_params}
 use Rattle.param_space.proofs.Checks.{readable, activity_read}
 use Rattle.param_space.proofs.space.Space.marks.Goals as goal
 

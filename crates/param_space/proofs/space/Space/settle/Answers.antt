@@ -1,10 +1,10 @@
 use Rattle.std.proofs.Common.{◌≡◌, ◌∙◌, arith, length, get_or, sym, subst, ap}
 use Rattle.param_space.specs.Space.{Belongs}
-use Rattle.param_space.specs.Belonging.{Belongs-defaults}
-use Rattle.param_space.specs.Configurations.{settled, is_allowed, IsConfig}
-use Rattle.param_space.specs.Activity.{settled_belongs}
-use Rattle.param_space.specs.Soundness.{settled_is_config}
-use Rattle.param_space.proofs.Settling.{IsSettling, length-settled, kept_value, default_value, length-mixed, all_settled}
+use Rattle.param_space.proofs.BelongsLemmas.{Belongs-defaults}
+use Rattle.param_space.specs.Configurations.{settled_config, is_allowed, IsConfig}
+use Rattle.param_space.proofs.SettledConfigs.{settled_belongs}
+use Rattle.param_space.proofs.Soundness.{settled_is_config}
+use Rattle.param_space.proofs.SettledValues.{IsSettling, length-settled, kept_value, default_value, length-mixed, all_settled}
 use Rattle.param_space.proofs.space.Space.settle.Goals as goal
 use Rattle.param_space.proofs.space.Space.settle.Goals.{then-not-active-i, else-not-active-i}
 
@@ -13,7 +13,7 @@ set-requires c =
     let lists = c.args.self.now in
     let old = c.args.config.now in
     let params : length c.as_slice-param-items.result.now ≡ length lists.params = ap length (c.as_slice-param-items.ensures ∙ ap (λ l. l.params) c.self.view_is) in
-    let long = length-mixed (settled lists old) old c.loop-i.i (length-settled lists old c.requires ∙ sym c.marks-active.ensures.long) in
+    let long = length-mixed (settled_config lists old) old c.loop-i.i (length-settled lists old c.requires ∙ sym c.marks-active.ensures.long) in
     omega (arith, ap length c.loop-i.invariant, long, c.marks-active.ensures.long, params, c.loop-i-test.true)
 
 pub loop-i-preserved : goal.loop-i-preserved
@@ -39,7 +39,7 @@ returns c =
     let lists = c.args.self.now in
     let old = c.args.config.now in
     let params : length c.as_slice-param-items.result.now ≡ length lists.params = ap length (c.as_slice-param-items.ensures ∙ ap (λ l. l.params) c.self.view_is) in
-    let value : c.loop-i.config ≡ settled lists old = all_settled lists c.loop-i.config old c.loop-i.i c.requires (omega (arith, c.loop-i-test.false, params)) c.loop-i.invariant in
+    let value : c.loop-i.config ≡ settled_config lists old = all_settled lists c.loop-i.config old c.loop-i.i c.requires (omega (arith, c.loop-i-test.false, params)) c.loop-i.invariant in
     let space = c.marks-active.ensures.space in
     record {
       value = value;

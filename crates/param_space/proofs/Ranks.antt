@@ -5,13 +5,8 @@ use Rattle.std.proofs.lemmas.Bool.{cases_lt, or_right}
 use Rattle.std.proofs.lemmas.Bool.Decides.{nat_tests}
 use Rattle.std.proofs.lemmas.List.Elements.{All-nil, All-cons, All-head, All-tail}
 use Rattle.param_space.specs.declared.lists.Condition.{Condition}
-use Rattle.param_space.specs.Ancestors.{is_ancestor_within}
-use Rattle.param_space.specs.Counting.{IsWithin, count, count-le, count-same, count-less}
-
--- the parameters that a condition names are below n
-pub record IsNamed (n : ℕ) (c : Condition) : Type 0 where
-  pub child : c.child < n
-  pub parent : c.parent < n
+use Rattle.param_space.specs.Ancestors.{is_ancestor_within, IsNamed, IsAcyclic, count, rank}
+use Rattle.param_space.proofs.Counts.{IsWithin, count-le, count-same, count-less}
 
 -- the numbers that a generation adds to those that are known
 abbrev step : List Condition → ℕ → (ℕ → Bool) → ℕ → Bool
@@ -164,10 +159,6 @@ has_condition cs q (suc g) a h =
     either (inl e) = e
     either (inr e) = e
 
--- no child of a condition is its own ancestor
-abbrev pub IsAcyclic : ℕ → List Condition → Type 0
-IsAcyclic n cs = All (λ c. is_ancestor_within n cs c.child c.child ≡ false) cs
-
 no_own_child : (n : ℕ) (all cs : List Condition) (q : ℕ) → All (λ c. is_ancestor_within n all c.child c.child ≡ false) cs → list_any (λ c. c.child == q) cs ≡ true → is_ancestor_within n all q q ≡ false
 no_own_child n all [] q acyclic some = absurd (cc)
 no_own_child n all (c ∷ cs) q acyclic some =
@@ -189,10 +180,6 @@ no_own_ancestor n cs acyclic q = by (is_ancestor_within n cs q q) refl
     by : (b : Bool) → is_ancestor_within n cs q q ≡ b → b ≡ false
     by true e = sym e ∙ no_own_child n cs cs q acyclic (has_condition cs q n q e)
     by false e = refl
-
--- how many ancestors a parameter has
-abbrev pub rank : ℕ → List Condition → ℕ → ℕ
-rank n cs p = count (is_ancestor_within n cs p) n
 
 -- a parent has fewer
 rank_of_parent : (n : ℕ) (cs : List Condition) → All (IsNamed n) cs → IsAcyclic n cs → (p q : ℕ) → q < n → is_parent cs p q ≡ true → rank n cs q < rank n cs p

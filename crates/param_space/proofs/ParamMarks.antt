@@ -1,13 +1,12 @@
 -- Marks of parameters, one condition or parameter after another.
-use Rattle.std.proofs.Common.{ℕ, zero, suc, ◌≡◌, ◌≢◌, ◌<◌, ◌≤◌, ◌+◌, ◌⊎◌, inl, inr, Bool, true, false, cond, ◌&&◌, ◌||◌, ◌==◌, List, [], ◌∷◌, length, get_or, slice_index, slice_set, replicate, eq-or-lt_of_le, refl, sym, ap, ◌∙◌, arith, add-one}
+use Rattle.std.proofs.Common.{ℕ, zero, suc, ◌≡◌, ◌≢◌, ◌<◌, ◌≤◌, ◌+◌, ◌⊎◌, inl, inr, Bool, false, ◌&&◌, ◌||◌, ◌==◌, List, [], ◌∷◌, length, get_or, slice_index, slice_set, replicate, eq-or-lt_of_le, refl, sym, ap, ◌∙◌, arith, add-one}
 use Rattle.std.specs.List.{All, list_any, slice_index_or}
 use Rattle.std.proofs.lemmas.Grind.{get_or-set_at}
 use Rattle.std.proofs.lemmas.List.{get_or-set_other}
 use Rattle.std.proofs.lemmas.List.Elements.{All-head, All-tail, All-weaker}
+use Rattle.param_space.specs.Limits
 use Rattle.param_space.specs.declared.lists.Condition.{Condition}
-use Rattle.param_space.specs.Ancestors.{is_ancestor_within}
-use Rattle.param_space.specs.Acyclic.{IsNamed}
-use Rattle.param_space.specs.Counting.{count}
+use Rattle.param_space.specs.Ancestors.{is_ancestor_within, IsNamed}
 
 -- no mark is set at first
 pub unmarked : (n a : ℕ) → get_or (replicate n false) a false ≡ false
@@ -26,31 +25,12 @@ any_alike P f g [] h same = refl
 any_alike P f g (x ∷ xs) h same = ap (λ b. b || list_any f xs) (same x (All-head P x xs h)) ∙ ap (λ b. g x || b) (any_alike P f g xs (All-tail P x xs h) same)
 
 -- what a generation adds to the ancestors within g generations
-pub generation_more : (cs : List Condition) (p g a : ℕ) (known : List Bool) → All (IsNamed 256) cs → ((b : ℕ) → b < 256 → slice_index_or known b false ≡ is_ancestor_within g cs p b)
+pub generation_more : (cs : List Condition) (p g a : ℕ) (known : List Bool) → All (IsNamed Limits.max_params) cs → ((b : ℕ) → b < Limits.max_params → slice_index_or known b false ≡ is_ancestor_within g cs p b)
     → list_any (λ c. (c.parent == a) && ((c.child == p) || slice_index_or known c.child false)) cs ≡ is_ancestor_within (g + 1) cs p a
 unfolding is_ancestor_within
 generation_more cs p g a known named same =
-    rw add-one (any_alike (IsNamed 256) (λ c. (c.parent == a) && ((c.child == p) || slice_index_or known c.child false)) (λ c. (c.parent == a) && ((c.child == p) || is_ancestor_within g cs p c.child)) cs named
+    rw add-one (any_alike (IsNamed Limits.max_params) (λ c. (c.parent == a) && ((c.child == p) || slice_index_or known c.child false)) (λ c. (c.parent == a) && ((c.child == p) || is_ancestor_within g cs p c.child)) cs named
     (λ c here. ap (λ b. (c.parent == a) && ((c.child == p) || b)) (same c.child here.child)))
-
--- one more number is counted where it passes
-pub count_one : (f : ℕ → Bool) (n : ℕ) → f n ≡ true → count f (n + 1) ≡ count f n + 1
-unfolding count
-count_one f n h = ap (count f) (add-one n) ∙ ap (λ b. count f n + cond b 1 0) h
-
-pub count_none : (f : ℕ → Bool) (n : ℕ) → f n ≡ false → count f (n + 1) ≡ count f n
-unfolding count
-count_none f n h = ap (count f) (add-one n) ∙ ap (λ b. count f n + cond b 1 0) h ∙ (let e : count f n + 0 ≡ count f n = omega arith in e)
-
-pub count_start : (f : ℕ → Bool) → count f 0 ≡ 0
-unfolding count
-count_start f = refl
-
--- tests that agree below n count the same
-pub count_alike : (f g : ℕ → Bool) (n : ℕ) → ((a : ℕ) → a < n → f a ≡ g a) → count f n ≡ count g n
-unfolding count
-count_alike f g zero h = refl
-count_alike f g (suc n) h = ap (λ k. k + cond (f n) 1 0) (count_alike f g n (λ a lt. h a (omega (arith, lt)))) ∙ ap (λ b. count g n + cond b 1 0) (h n (omega arith))
 
 -- what holds of the places below n, and of n once it is set, holds below n + 1
 pub set_below : (f : ℕ → ℕ) (xs : List ℕ) (n v : ℕ) → n < length xs → v ≡ f n → ((p : ℕ) → p < n → slice_index xs p ≡ f p) → (p : ℕ) → p < n + 1 → slice_index (slice_set xs n v) p ≡ f p
@@ -68,5 +48,5 @@ mark_below f xs n v lt here below p less = by (eq-or-lt_of_le (let le : p ≤ n 
     by (inr before) = get_or-set_other xs n p v false (let other : p ≢ n = omega (arith, before) in other) ∙ below p before
 
 -- conditions of fewer parameters than 256
-pub named_weaker : (n : ℕ) (cs : List Condition) → n ≤ 256 → All (IsNamed n) cs → All (IsNamed 256) cs
-named_weaker n cs le named = All-weaker (IsNamed n) (IsNamed 256) (λ c h. record { child = omega (arith, h.child, le); parent = omega (arith, h.parent, le) }) cs named
+pub named_weaker : (n : ℕ) (cs : List Condition) → n ≤ Limits.max_params → All (IsNamed n) cs → All (IsNamed Limits.max_params) cs
+named_weaker n cs le named = All-weaker (IsNamed n) (IsNamed Limits.max_params) (λ c h. record { child = omega (arith, h.child, le); parent = omega (arith, h.parent, le) }) cs named

@@ -1,12 +1,12 @@
 -- Which configurations belong to a space.
-use Rattle.std.proofs.Common.{◌≡◌, ◌<◌, ◌≤◌, ◌+◌, ◌++◌, ℕ, zero, suc, List, [], ◌∷◌, None, length, get_or, refl, sym, ap, subst, ◌∙◌, arith}
+use Rattle.std.proofs.Common.{◌≡◌, ◌<◌, ◌+◌, ◌++◌, ℕ, zero, suc, List, [], ◌∷◌, None, length, get_or, refl, sym, ap, subst, ◌∙◌, arith}
 use Rattle.std.specs.List.{slice_set}
 use Rattle.std.proofs.lemmas.Bool.Decides.{nat_tests}
 use Rattle.param_space.specs.declared.lists.Param.{Param}
 use Rattle.param_space.specs.declared.lists.Part.TheVariants as part
 use Rattle.param_space.specs.Space.{defaults, Belongs}
 use Rattle.param_space.specs.Faults.{param_rules, param_fault, later_params_fault, params_fault}
-use Rattle.param_space.specs.Rules.{rules_hold, none_here}
+use Rattle.param_space.proofs.RuleLemmas.{rules_hold, none_here}
 
 -- the default of a parameter without a fault is one of its values
 default_is_value : (earlier : List (List ℕ)) (place : ℕ) (p : Param) → param_fault earlier place p ≡ None → p.default < length p.values
@@ -24,39 +24,6 @@ defaults_belong (p ∷ later) earlier place h =
 pub Belongs-defaults : (params : List Param) → params_fault params ≡ None → Belongs params (defaults params)
 Belongs-defaults [] h = absurd (cc)
 Belongs-defaults (p ∷ later) h = defaults_belong (p ∷ later) [] 0 h
-
--- a parameter without a fault stands below place 256 and has at most 256 values
-within_limits : (earlier : List (List ℕ)) (place : ℕ) (p : Param) → param_fault earlier place p ≡ None → (place < 256) × (length p.values ≤ 256)
-within_limits earlier place p h =
-    let within = (rules_hold (param_rules earlier place p) h).0 in
-    grind (arith, nat_tests, within)
-
-few_from : (params : List Param) (earlier : List (List ℕ)) (place : ℕ) → later_params_fault earlier place params ≡ None → place ≤ 256 → place + length params ≤ 256
-few_from [] earlier place h le = omega arith
-few_from (p ∷ later) earlier place h le =
-    let none = none_here part.Param place (param_fault earlier place p) (later_params_fault (earlier ++ p.name ∷ []) (place + 1) later) h in
-    let here = within_limits earlier place p none.0 in
-    let more = few_from later (earlier ++ p.name ∷ []) (place + 1) none.1 (omega arith) in
-    omega arith
-
-few_values_from : (params : List Param) (earlier : List (List ℕ)) (place i : ℕ) (d : Param) → later_params_fault earlier place params ≡ None → i < length params → length (get_or params i d).values ≤ 256
-few_values_from [] earlier place i d h lt = absurd (omega arith)
-few_values_from (p ∷ later) earlier place zero d h lt =
-    let none = none_here part.Param place (param_fault earlier place p) (later_params_fault (earlier ++ p.name ∷ []) (place + 1) later) h in
-    (within_limits earlier place p none.0).1
-few_values_from (p ∷ later) earlier place (suc i) d h lt =
-    let none = none_here part.Param place (param_fault earlier place p) (later_params_fault (earlier ++ p.name ∷ []) (place + 1) later) h in
-    few_values_from later (earlier ++ p.name ∷ []) (place + 1) i d none.1 (omega arith)
-
--- a space has at most 256 parameters
-pub few_params : (params : List Param) → params_fault params ≡ None → length params ≤ 256
-few_params [] h = absurd (cc)
-few_params (p ∷ later) h = let few = few_from (p ∷ later) [] 0 h (omega arith) in omega arith
-
--- and each of them has at most 256 values
-pub few_values : (params : List Param) (i : ℕ) (d : Param) → params_fault params ≡ None → i < length params → length (get_or params i d).values ≤ 256
-few_values [] i d h lt = absurd (cc)
-few_values (p ∷ later) i d h lt = few_values_from (p ∷ later) [] 0 i d h lt
 
 -- a configuration has as many value numbers as there are parameters
 pub length-Belongs : (params : List Param) (values : List ℕ) → Belongs params values → length values ≡ length params

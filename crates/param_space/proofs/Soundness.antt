@@ -1,5 +1,5 @@
 -- What holds of each space: its conditions run in no circle, settling makes canonical configurations, and the defaults are allowed.
-use Rattle.std.proofs.Common.{ℕ, ◌≡◌, ◌<◌, ◌≤◌, Bool, true, false, not, ◌&&◌, nat_lt, List, [], ◌∷◌, None, length, refl, ap, arith}
+use Rattle.std.proofs.Common.{ℕ, ◌≡◌, ◌<◌, Bool, true, false, not, ◌&&◌, nat_lt, List, [], ◌∷◌, None, length, refl, ap, arith}
 use Rattle.std.specs.List.{All, list_all}
 use Rattle.std.proofs.lemmas.Bool.Decides.{nat_tests}
 use Rattle.std.proofs.lemmas.List.Elements.{All-nil, All-cons, All-weaker}
@@ -10,14 +10,15 @@ use Rattle.param_space.specs.declared.lists.Pick.{Pick}
 use Rattle.param_space.specs.declared.lists.Param.{Param}
 use Rattle.param_space.specs.declared.lists.Part.TheVariants as part
 use Rattle.param_space.specs.Space.{Lists, Belongs, defaults}
-use Rattle.param_space.specs.Ancestors.{is_ancestor}
-use Rattle.param_space.specs.Acyclic.{IsNamed, IsAcyclic, rank, rank_rises, rank_below}
-use Rattle.param_space.specs.Configurations.{is_active, settled, is_forbidden_by, is_allowed, IsConfig}
+use Rattle.param_space.specs.Ancestors.{is_ancestor, IsNamed, IsAcyclic, rank}
+use Rattle.param_space.proofs.Ranks.{rank_rises, rank_below}
+use Rattle.param_space.specs.Configurations.{is_active, settled_config, is_forbidden_by, is_allowed, IsConfig}
 use Rattle.param_space.specs.Marks.{ArePicksNamed}
-use Rattle.param_space.specs.Activity.{is_met, IsRanked, active_is, settled_canonical, settled_belongs, defaults_canonical}
-use Rattle.param_space.specs.Belonging.{Belongs-defaults}
+use Rattle.param_space.proofs.ActiveParams.{is_met, IsRanked, active_is}
+use Rattle.param_space.proofs.SettledConfigs.{settled_canonical, settled_belongs, defaults_canonical}
+use Rattle.param_space.proofs.BelongsLemmas.{Belongs-defaults}
 use Rattle.param_space.specs.Faults.{first_broken, condition_rules, condition_fault, conditions_fault, clause_rules, clause_fault, clauses_fault, cycle_rules, cycle_fault, default_rules, IsSpace}
-use Rattle.param_space.specs.Rules.{rules_hold, All-faultless, few-faultless}
+use Rattle.param_space.proofs.RuleLemmas.{rules_hold, All-faultless}
 
 -- a condition without a fault names parameters
 condition_named : (params : List Param) (place : ℕ) (c : Condition) → condition_fault params place c ≡ None → IsNamed (length params) c
@@ -28,12 +29,6 @@ condition_named params place c h =
 -- conditions without a fault name parameters
 pub faultless_named : (params : List Param) (conditions : List Condition) → conditions_fault params conditions ≡ None → All (IsNamed (length params)) conditions
 faultless_named params conditions h = All-faultless part.Condition (condition_fault params) (IsNamed (length params)) conditions 0 (condition_named params) h
-
--- and there are at most 1,024
-pub few_conditions : (params : List Param) (conditions : List Condition) → conditions_fault params conditions ≡ None → length conditions ≤ 1024
-few_conditions params conditions h =
-    let few = few-faultless part.Condition (condition_fault params) 1024 conditions 0 (λ i c none. (let first = (rules_hold (condition_rules params i c) none).0 in grind (arith, nat_tests, first))) (omega arith) h in
-    omega (arith, few)
 
 -- clauses without a fault name parameters
 pub faultless_picks : (params : List Param) (forbidden : List Forbidden) → clauses_fault params forbidden ≡ None → All (ArePicksNamed (length params)) forbidden
@@ -50,12 +45,6 @@ faultless_picks params forbidden h =
         first : (b : Bool) → nat_lt k.param n ≡ b → b && list_all (λ j. nat_lt j.param n) picks ≡ true → (k.param < n) × (list_all (λ j. nat_lt j.param n) picks ≡ true)
         first true e rest = (grind (arith, nat_tests, e), rest)
         first false e rest = absurd (cc)
-
--- and there are at most 4,096
-pub few_clauses : (params : List Param) (forbidden : List Forbidden) → clauses_fault params forbidden ≡ None → length forbidden ≤ 4096
-few_clauses params forbidden h =
-    let few = few-faultless part.Forbidden (clause_fault params) 4096 forbidden 0 (λ i f none. (let first = (rules_hold (clause_rules params i f) none).0 in grind (arith, nat_tests, first))) (omega arith) h in
-    omega (arith, few)
 
 -- the conditions of a space name parameters
 pub conditions_named : (lists : Lists) → IsSpace lists → All (IsNamed (length lists.params)) lists.conditions
@@ -90,7 +79,7 @@ pub active_exactly : (lists : Lists) → IsSpace lists → (config : List ℕ) (
 active_exactly lists space config p = active_is lists (rank (length lists.params) lists.conditions) (is_ranked lists space) config p
 
 -- a settled configuration that is allowed is one of the space's own
-pub settled_is_config : (lists : Lists) → IsSpace lists → (config : List ℕ) → Belongs lists.params config → is_allowed lists (settled lists config) ≡ true → IsConfig lists (settled lists config)
+pub settled_is_config : (lists : Lists) → IsSpace lists → (config : List ℕ) → Belongs lists.params config → is_allowed lists (settled_config lists config) ≡ true → IsConfig lists (settled_config lists config)
 settled_is_config lists space config belongs allowed = record {
   belongs = settled_belongs lists config (Belongs-defaults lists.params space.params) belongs;
   canonical = settled_canonical lists (rank (length lists.params) lists.conditions) (is_ranked lists space) (parents_named lists space) config belongs;

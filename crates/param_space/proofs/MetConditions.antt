@@ -8,10 +8,12 @@ use Rattle.std.proofs.lemmas.List.{get_or-map, length-map, get_or-set_other, get
 use Rattle.std.proofs.Math.Bool.{and-true, and-false}
 use Rattle.std.proofs.lemmas.List.Folds.{list_all-append, list_all_more}
 use Rattle.std.proofs.lemmas.List.Sorted.{list_any-IsPermutation}
+use Rattle.param_space.specs.Limits
 use Rattle.param_space.specs.declared.lists.Condition.{Condition}
 use Rattle.param_space.specs.Configurations.{is_active_within}
-use Rattle.param_space.specs.Acyclic.{IsNamed, IsAcyclic, rank, rank_rises, rank_below}
-use Rattle.param_space.specs.Activity.{is_met, active_within_is}
+use Rattle.param_space.specs.Ancestors.{IsNamed, IsAcyclic, rank}
+use Rattle.param_space.proofs.Ranks.{rank_rises, rank_below}
+use Rattle.param_space.proofs.ActiveParams.{is_met, active_within_is}
 use Rattle.param_space.specs.Order.{no_condition, condition_at, in_order, AreParentsFirst, IsOrder}
 
 -- all elements pass where none fails
@@ -74,7 +76,7 @@ said_more n cs order config i p lt =
 
 -- whether the condition in turn is met is told by the marks so far
 pub met_told : (n : ℕ) (cs : List Condition) (order config : List ℕ) (i : ℕ) (c : Condition) (marks : List Bool) (met : Bool) → IsGoneThrough n cs order → i < length order → c ≡ condition_at (in_order cs order) i
-    → ((p : ℕ) → p < 256 → slice_index_or marks p false ≡ said n cs order config i p) → c.parent < 256
+    → ((p : ℕ) → p < Limits.max_params → slice_index_or marks p false ≡ said n cs order config i p) → c.parent < Limits.max_params
     → met ≡ list_any (λ v. slice_index_or config c.parent 0 == v) c.values && slice_index_or marks c.parent false
     → met ≡ list_any (λ v. slice_index_or config c.parent 0 == v) c.values && is_active_within (suc n) cs config c.parent
 met_told n cs order config i c marks met known lt at so_far below is =

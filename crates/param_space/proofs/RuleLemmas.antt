@@ -4,7 +4,7 @@ use Rattle.std.specs.List.{All}
 use Rattle.std.proofs.lemmas.List.Elements.{All-nil, All-cons, All-head, All-tail}
 use Rattle.param_space.specs.declared.lists.Part.{Part}
 use Rattle.param_space.specs.declared.lists.SpaceWhat.{SpaceWhat}
-use Rattle.param_space.specs.declared.lists.SpaceFault.{SpaceFault}
+use Rattle.param_space.specs.declared.lists.Breach.{Breach}
 use Rattle.param_space.specs.Faults.{first_broken, or_later, first_in, or_else}
 
 -- each of the rules holds
@@ -25,12 +25,12 @@ none_broken ((true, what) ∷ rules) h = none_broken rules h.1
 none_broken ((false, what) ∷ rules) h = absurd (cc)
 
 -- without a fault at a place and later there is none
-pub none_here : (part : Part) (place : ℕ) (what : Option SpaceWhat) (later : Option SpaceFault) → or_later part place what later ≡ None → (what ≡ None) × (later ≡ None)
+pub none_here : (part : Part) (place : ℕ) (what : Option SpaceWhat) (later : Option Breach) → or_later part place what later ≡ None → (what ≡ None) × (later ≡ None)
 none_here part place None later h = (refl, h)
 none_here part place (Some what) later h = absurd (cc)
 
 -- without one of two faults there is neither
-pub neither : (first second : Option SpaceFault) → or_else first second ≡ None → (first ≡ None) × (second ≡ None)
+pub neither : (first second : Option Breach) → or_else first second ≡ None → (first ≡ None) × (second ≡ None)
 neither None second h = (refl, h)
 neither (Some fault) second h = absurd (cc)
 

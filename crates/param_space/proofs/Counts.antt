@@ -1,15 +1,11 @@
 -- How many of the numbers below a bound pass a test.
-use Rattle.std.proofs.Common.{ℕ, zero, suc, ◌+◌, ◌≡◌, ◌<◌, ◌≤◌, ◌⊎◌, inl, inr, eq-or-lt_of_le, Bool, true, false, cond, refl, sym, subst, arith}
+use Rattle.std.proofs.Common.{ℕ, zero, suc, ◌+◌, ◌≡◌, ◌<◌, ◌≤◌, ◌⊎◌, inl, inr, eq-or-lt_of_le, Bool, true, false, cond, refl, sym, ap, ◌∙◌, subst, arith, add-one}
 use Rattle.std.proofs.lemmas.Bool.{cases_lt}
+use Rattle.param_space.specs.Ancestors.{count}
 
 -- wherever the first test passes, the second does
 abbrev pub IsWithin : (ℕ → Bool) → (ℕ → Bool) → Type 0
 IsWithin f g = (a : ℕ) → f a ≡ true → g a ≡ true
-
--- how many numbers below n pass
-unfoldable pub count : (ℕ → Bool) → ℕ → ℕ
-count f zero = 0
-count f (suc n) = count f n + cond (f n) 1 0
 
 -- 1 where a test passes
 abbrev one : Bool → ℕ
@@ -81,3 +77,22 @@ count-bounded f (suc n) m h = by (cases_lt n m) (count-bounded f n m h)
     by : (n < m) ⊎ (m ≤ n) → count f n ≤ m → count f n + one (f n) ≤ m
     by (inl less) earlier = omega (arith, count-le f n, one_small (f n), less)
     by (inr le) earlier = omega (arith, earlier, none (f n) (h n) le)
+
+-- one more number is counted where it passes
+pub count_one : (f : ℕ → Bool) (n : ℕ) → f n ≡ true → count f (n + 1) ≡ count f n + 1
+unfolding count
+count_one f n h = ap (count f) (add-one n) ∙ ap (λ b. count f n + cond b 1 0) h
+
+pub count_none : (f : ℕ → Bool) (n : ℕ) → f n ≡ false → count f (n + 1) ≡ count f n
+unfolding count
+count_none f n h = ap (count f) (add-one n) ∙ ap (λ b. count f n + cond b 1 0) h ∙ (let e : count f n + 0 ≡ count f n = omega arith in e)
+
+pub count_start : (f : ℕ → Bool) → count f 0 ≡ 0
+unfolding count
+count_start f = refl
+
+-- tests that agree below n count the same
+pub count_alike : (f g : ℕ → Bool) (n : ℕ) → ((a : ℕ) → a < n → f a ≡ g a) → count f n ≡ count g n
+unfolding count
+count_alike f g zero h = refl
+count_alike f g (suc n) h = ap (λ k. k + cond (f n) 1 0) (count_alike f g n (λ a lt. h a (omega (arith, lt)))) ∙ ap (λ b. count g n + cond b 1 0) (h n (omega arith))

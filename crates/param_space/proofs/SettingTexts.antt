@@ -4,12 +4,13 @@ use Rattle.std.specs.Prelude.{codes}
 use Rattle.std.specs.List.{slice_index_or}
 use Rattle.std.proofs.lemmas.Bool.Decides.{nat_tests}
 use Rattle.std.proofs.lemmas.List.{get_or_read, length-append}
+use Rattle.param_space.specs.Limits
 use Rattle.param_space.specs.declared.lists.Param.{Param}
 use Rattle.param_space.specs.Configurations.{is_active}
 use Rattle.param_space.specs.Space.{Lists, Belongs}
 use Rattle.param_space.specs.Settings.{named_values, at_places, active_values, setting_text, settings_text, with_setting}
 use Rattle.param_space.proofs.ActiveValues.{named, values_until, passing_more}
-use Rattle.param_space.specs.Belonging.{read_value_in_range}
+use Rattle.param_space.proofs.BelongsLemmas.{read_value_in_range}
 
 settings_text-more : (s : List ℕ × List ℕ) (ss : List (List ℕ × List ℕ)) (t : List ℕ × List ℕ)
     → settings_text (s ∷ ss ++ t ∷ []) ≡ settings_text (s ∷ ss) ++ (codes " " ++ setting_text t)
@@ -72,15 +73,15 @@ at_places-alike f g m place (x ∷ xs) h same =
     ∙ ap (λ zs. cond (g place) (x ∷ zs) zs) later
 
 -- the marked settings are the active ones
-pub active_marked : (lists : Lists) (config : List ℕ) (marks : List Bool) (params : List Param) (values : List ℕ) → Belongs lists.params config → length lists.params ≤ 256 → params ≡ lists.params → values ≡ config
-    → ((p : ℕ) → p < 256 → slice_index_or marks p false ≡ is_active lists config p)
+pub active_marked : (lists : Lists) (config : List ℕ) (marks : List Bool) (params : List Param) (values : List ℕ) → Belongs lists.params config → length lists.params ≤ Limits.max_params → params ≡ lists.params → values ≡ config
+    → ((p : ℕ) → p < Limits.max_params → slice_index_or marks p false ≡ is_active lists config p)
     → at_places (λ k. slice_index_or marks k false) 0 (named_values params values) ≡ active_values lists config
 active_marked lists config marks params values h few same same-values marked =
     let passes : ℕ → Bool = λ k. slice_index_or marks k false in
     let all : length (named_values lists.params config) ≡ length lists.params = length-all lists.params config h in
     ap (λ ps. at_places passes 0 (named_values ps values)) same
     ∙ ap (λ vs. at_places passes 0 (named_values lists.params vs)) same-values
-    ∙ at_places-alike passes (is_active lists config) 256 0 (named_values lists.params config) (omega (arith, all, few)) marked
+    ∙ at_places-alike passes (is_active lists config) Limits.max_params 0 (named_values lists.params config) (omega (arith, all, few)) marked
   where
     length-all : (ps : List Param) (vs : List ℕ) → Belongs ps vs → length (named_values ps vs) ≡ length ps
     length-all [] vs h = refl
