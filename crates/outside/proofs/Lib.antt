@@ -1,6 +1,7 @@
-pub mod Words
-pub mod Times
-pub mod Lines
-pub mod RoundTrip
-pub mod Shown
-pub mod Ending
+mod Words
+mod Times
+mod ResultParts
+mod WrittenTimes
+mod AnswerLines
+mod EndedOutput
+pub mod TakenParts

@@ -8,7 +8,7 @@ use Rattle.std.proofs.lemmas.Str.Parse.{digits_value_short}
 use Rattle.std.proofs.lemmas.Bool.Decides.{nat_tests}
 use Rattle.plain_text.specs.Decimals.{count_of}
 use Rattle.plain_text.proofs.Digits.{digits_model}
-use Rattle.outside.specs.Results.{is_time, fitting}
+use Rattle.outside.specs.Results.{is_time, u64_value}
 
 after-append : (n : ℕ) (xs ys : List ℕ) → digits_value_after 10 n (xs ++ ys) ≡ digits_value_after 10 (digits_value_after 10 n xs) ys
 after-append n [] ys = refl
@@ -42,21 +42,21 @@ IsTime-from_test whole fraction h =
 below_million : (fraction : List ℕ) → list_all is_ascii_digit fraction ≡ true → length fraction ≡ 6 → digits_value 10 fraction < 1000000
 below_million fraction h six = digits_value_short digits_model fraction 6 h (omega arith)
 
-fitting-none : (n : ℕ) → ¬ (n < 2 ^ 64) → None ≡ fitting n
-fitting-none n h = grind (arith, nat_tests)
+u64_value-none : (n : ℕ) → ¬ (n < 2 ^ 64) → None ≡ u64_value n
+u64_value-none n h = grind (arith, nat_tests)
 
-fitting-some : (n : ℕ) → n < 2 ^ 64 → Some n ≡ fitting n
-fitting-some n h = grind (arith, nat_tests)
+u64_value-some : (n : ℕ) → n < 2 ^ 64 → Some n ≡ u64_value n
+u64_value-some n h = grind (arith, nat_tests)
 
 no_count : (text : List ℕ) → list_all is_ascii_digit text ≡ true → 0 < length text → None ≡ count_of text → ¬ (digits_value 10 text < 2 ^ 64)
 no_count text h some none small = grind (arith, nat_tests, h, some, none, small)
 
 -- whole seconds that no u64 holds
-pub fitting-no_seconds : (whole fraction : List ℕ) → is_time whole fraction ≡ true → None ≡ count_of whole → None ≡ fitting (digits_value 10 (whole ++ fraction))
-fitting-no_seconds whole fraction h none =
+pub u64_value-no_seconds : (whole fraction : List ℕ) → is_time whole fraction ≡ true → None ≡ count_of whole → None ≡ u64_value (digits_value 10 (whole ++ fraction))
+u64_value-no_seconds whole fraction h none =
     let t = IsTime-from_test whole fraction h in
     let large : ¬ (digits_value 10 whole < 2 ^ 64) = no_count whole t.digits t.some none in
-    rw (digits_value-joined whole fraction t.six) (fitting-none _ (λ small. large (omega (arith, small))))
+    rw (digits_value-joined whole fraction t.six) (u64_value-none _ (λ small. large (omega (arith, small))))
 
 -- six digits are always a count
 pub six_digits_count : (whole fraction : List ℕ) → is_time whole fraction ≡ true → None ≡ count_of fraction → ⊥
@@ -68,20 +68,20 @@ pub count_value : (text : List ℕ) (n : ℕ) → Some n ≡ count_of text → n
 count_value text n e = grind (arith, nat_tests, e)
 
 -- whole seconds with too many microseconds
-pub fitting-no_product : (whole fraction : List ℕ) (seconds : ℕ) → is_time whole fraction ≡ true → Some seconds ≡ count_of whole → (seconds * 1000000 < 2 ^ 64 → ⊥) → None ≡ fitting (digits_value 10 (whole ++ fraction))
-fitting-no_product whole fraction seconds h e large =
+pub u64_value-no_product : (whole fraction : List ℕ) (seconds : ℕ) → is_time whole fraction ≡ true → Some seconds ≡ count_of whole → (seconds * 1000000 < 2 ^ 64 → ⊥) → None ≡ u64_value (digits_value 10 (whole ++ fraction))
+u64_value-no_product whole fraction seconds h e large =
     let t = IsTime-from_test whole fraction h in
     let v : seconds ≡ digits_value 10 whole = count_value whole seconds e in
-    rw (digits_value-joined whole fraction t.six) (fitting-none _ (λ small. large (omega (arith, small, v))))
+    rw (digits_value-joined whole fraction t.six) (u64_value-none _ (λ small. large (omega (arith, small, v))))
 
-sum_fits : (r : Option ℕ) (n : ℕ) → SomeIff r (n < 2 ^ 64) n → r ≡ fitting n
-sum_fits None n h = fitting-none n h
-sum_fits (Some x) n h = ap Some h.1 ∙ fitting-some n h.0
+sum_fits : (r : Option ℕ) (n : ℕ) → SomeIff r (n < 2 ^ 64) n → r ≡ u64_value n
+sum_fits None n h = u64_value-none n h
+sum_fits (Some x) n h = ap Some h.1 ∙ u64_value-some n h.0
 
 -- the sum, where a u64 holds it
-pub fitting-sum : (whole fraction : List ℕ) (seconds product rest : ℕ) (r : Option ℕ) → is_time whole fraction ≡ true → Some seconds ≡ count_of whole → Some rest ≡ count_of fraction → product ≡ seconds * 1000000 → SomeIff r (product + rest < 2 ^ 64) (product + rest) → r ≡ fitting (digits_value 10 (whole ++ fraction))
-fitting-sum whole fraction seconds product rest r h e f p sum =
+pub u64_value-sum : (whole fraction : List ℕ) (seconds product rest : ℕ) (r : Option ℕ) → is_time whole fraction ≡ true → Some seconds ≡ count_of whole → Some rest ≡ count_of fraction → product ≡ seconds * 1000000 → SomeIff r (product + rest < 2 ^ 64) (product + rest) → r ≡ u64_value (digits_value 10 (whole ++ fraction))
+u64_value-sum whole fraction seconds product rest r h e f p sum =
     let t = IsTime-from_test whole fraction h in
     let same : product + rest ≡ digits_value 10 (whole ++ fraction) = omega (arith, p, digits_value-joined whole fraction t.six, count_value whole seconds e, count_value fraction rest f) in
-    let P : ℕ → Type 0 = λ n. r ≡ fitting n in
+    let P : ℕ → Type 0 = λ n. r ≡ u64_value n in
     subst P same (sum_fits r _ sum)

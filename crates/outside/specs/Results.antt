@@ -29,9 +29,10 @@ abbrev pub micros_from : List ℕ → List ℕ → Option ℕ
 micros_from whole fraction = if is_time whole fraction then Some (digits_value 10 (whole ++ fraction)) else None
 
 -- the number, where a u64 holds it
-abbrev pub fitting : ℕ → Option ℕ
-fitting n = if nat_lt n (2 ^ 64) then Some n else None
+abbrev pub u64_value : ℕ → Option ℕ
+u64_value n = if nat_lt n (2 ^ 64) then Some n else None
 
+-- a time with its point, as microseconds
 abbrev pub micros_of : List ℕ → Option ℕ
 micros_of text = micros_from (before_first (λ b. b == 46) text) (after_first (λ b. b == 46) text)
 
@@ -48,15 +49,17 @@ answer_by cutoff word (Some t) =
     else if bytes_eq word (codes "ABORT") then Abort
     else Crashed
 
--- what the text after the first comma and its blank says
+-- what the time after the first comma and its blank says, where the line ends as it has to
 abbrev pub answer_from : ℕ → List ℕ → Option (List ℕ) → Answer
 answer_from cutoff word None = Crashed
 answer_from cutoff word (Some time) = answer_by cutoff word (micros_of time)
 
+-- what the text after the first comma says
 abbrev pub answer_between : ℕ → List ℕ → Option (List ℕ) → Answer
 answer_between cutoff word None = Crashed
 answer_between cutoff word (Some rest) = answer_from cutoff word (before_suffix (codes ", 0, 0, 0\n") rest)
 
+-- what the text after the line's head says
 abbrev pub answer_after : ℕ → Option (List ℕ) → Answer
 answer_after cutoff None = Crashed
 answer_after cutoff (Some fields) =

@@ -8,8 +8,8 @@ use Rattle.outside.specs.declared.runs.Setting.{Setting}
 use Rattle.outside.specs.declared.runs.Run.{Run}
 
 -- the longest parts of a text without spaces and tabs
-abbrev pub blank_parted : List ℕ → List (List ℕ)
-blank_parted text =
+abbrev pub program_words : List ℕ → List (List ℕ)
+program_words text =
     filter (λ word. nat_lt 0 (length word)) (flat_map (slice_split (λ b. b == 9)) (slice_split (λ b. b == 32) text))
 
 -- `-name` and the value of each setting

@@ -1,7 +1,7 @@
 //! Files.
 ghost use Rattle.std.specs.Prelude.{◌≡◌, ℕ, ◌≤◌, List, Option, Some, None, IfSome, IfOk};
-ghost use Rattle.outside.specs.Counts.{counted};
-ghost use Rattle.outside.specs.Meanings.{has_failed};
+ghost use Rattle.outside.specs.Counts.{count_after};
+ghost use Rattle.outside.specs.Changes.{has_failed};
 
 use crate::faults::Fault;
 
@@ -17,6 +17,6 @@ pub trait Files {
     fn read(&mut self, name: &str) -> Result<Vec<u8>, Fault>
         ensures same { contents self.new ≡ contents self.old }
         ensures given { IfOk result (λ bytes. IfSome (contents self.old) (λ named. named name.now ≡ Some bytes.items)) }
-        ensures counted { faults self.new ≡ counted (has_failed result) (faults self.old) }
+        ensures counted { faults self.new ≡ count_after (has_failed result) (faults self.old) }
         ensures counts { faults self.old ≤ faults self.new };
 }

@@ -1,9 +1,10 @@
 //! The outside world as traits: files, output and child processes, with what each tells;
-//! and implementations in memory.
+//! what is built on them, and implementations in memory.
 #![tactic(auto)]
 
 mod faults;
 mod files;
+mod last_runs;
 mod memory_files;
 mod memory_sink;
 mod numbers;
@@ -13,9 +14,11 @@ mod sink;
 mod spawner;
 mod table;
 mod table_seat;
+mod whole_pieces;
 
 pub use faults::{Fail, Fault, Poll};
 pub use files::Files;
+pub use last_runs::LastRuns;
 pub use memory_files::MemoryFiles;
 pub use memory_sink::MemorySink;
 pub use results::answer_of;
@@ -24,6 +27,4 @@ pub use sink::Sink;
 pub use spawner::Spawner;
 pub use table::Table;
 pub use table_seat::{Script, TableSeat};
-
-#[cfg(test)]
-mod tests;
+pub use whole_pieces::{Unwritten, write_whole};

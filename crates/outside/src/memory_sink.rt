@@ -20,9 +20,9 @@ pub struct MemorySink {
 }
 
 impl Model for MemorySink {
-    ghost use Rattle.outside.specs.Sunk.{Sunk};
+    ghost use Rattle.outside.specs.SinkState.{SinkState};
 
-    ghost Value = { Sunk };
+    ghost Value = { SinkState };
 
     ghost view = { λ s. record { bytes = s.bytes.items; bad_writes = s.bad_writes.items; empty_writes = s.empty_writes.items; faults = s.faults; empties = s.empties } };
 }

@@ -4,7 +4,7 @@ ghost use Rattle.std.specs.Char.{is_ascii_digit};
 ghost use Rattle.std.specs.List.{before_first, after_first, list_all};
 ghost use Rattle.std.specs.Str.Parse.{digits_value};
 ghost use Rattle.objective.specs.Costs.{IsWithin};
-ghost use Rattle.outside.specs.Results.{answer_by as answer_for, answer_of as answer_in, fitting, is_time as time, micros_from as micros, solved_within as solved};
+ghost use Rattle.outside.specs.Results;
 
 use objective::{Answer, Micros};
 use plain_text::read_count;
@@ -36,7 +36,7 @@ fn is_digits(bytes: &[u8]) -> bool
 
 /// Whether these are one or more digits, and six digits.
 fn is_time(whole: &[u8], fraction: &[u8]) -> bool
-    ensures { result ≡ time whole.now fraction.now }
+    ensures { result ≡ Results.is_time whole.now fraction.now }
 {
     is_digits(whole) && !whole.is_empty() && is_digits(fraction) && fraction.len() == 6
 }
@@ -44,8 +44,8 @@ fn is_time(whole: &[u8], fraction: &[u8]) -> bool
 /// The microseconds of whole seconds and six digits. None exactly where they exceed the
 /// greatest u64.
 fn micros_from(whole: &[u8], fraction: &[u8]) -> Option<u64>
-    requires { IsTrue (time whole.now fraction.now) }
-    ensures { result ≡ fitting (digits_value 10 (whole.now ++ fraction.now)) }
+    requires { IsTrue (Results.is_time whole.now fraction.now) }
+    ensures { result ≡ Results.u64_value (digits_value 10 (whole.now ++ fraction.now)) }
 {
     let (seconds, rest) = (read_count(whole)?, read_count(fraction)?);
     seconds.checked_mul(1_000_000)?.checked_add(rest)
@@ -53,8 +53,8 @@ fn micros_from(whole: &[u8], fraction: &[u8]) -> Option<u64>
 
 /// What a time says that was read after `SAT`: solved within the cutoff, or a timeout.
 fn solved_within(whole: &[u8], fraction: &[u8], cutoff: Micros) -> Answer
-    requires { IsTrue (time whole.now fraction.now) }
-    ensures value { result ≡ solved cutoff.0 (digits_value 10 (whole.now ++ fraction.now)) }
+    requires { IsTrue (Results.is_time whole.now fraction.now) }
+    ensures value { result ≡ Results.solved_within cutoff.0 (digits_value 10 (whole.now ++ fraction.now)) }
     ensures within { IsWithin result cutoff.0 }
 {
     match micros_from(whole, fraction) {
@@ -65,7 +65,7 @@ fn solved_within(whole: &[u8], fraction: &[u8], cutoff: Micros) -> Answer
 
 /// What a word and a time say.
 fn answer_by(word: &[u8], whole: &[u8], fraction: &[u8], cutoff: Micros) -> Answer
-    ensures value { result ≡ answer_for cutoff.0 word.now (micros whole.now fraction.now) }
+    ensures value { result ≡ Results.answer_by cutoff.0 word.now (Results.micros_from whole.now fraction.now) }
     ensures within { IsWithin result cutoff.0 }
 {
     if !is_time(whole, fraction) {
@@ -85,7 +85,7 @@ fn answer_by(word: &[u8], whole: &[u8], fraction: &[u8], cutoff: Micros) -> Answ
 /// it is exactly one, and a crash where it is anything else. A time above the cutoff is
 /// a timeout. Takes no memory.
 pub fn answer_of(output: &[u8], cutoff: Micros) -> Answer
-    ensures value { result ≡ answer_in output.now cutoff.0 }
+    ensures value { result ≡ Results.answer_of output.now cutoff.0 }
     ensures within { IsWithin result cutoff.0 }
 {
     let Some(fields) = output.strip_prefix(b"Result for ParamILS: ") else {

@@ -3,7 +3,7 @@ ghost use Rattle.std.specs.Prelude.{◌≡◌, ◌==◌, ◌++◌, ◌<◌, [], 
 ghost use Rattle.std.specs.Fmt.{decimal};
 ghost use Rattle.std.specs.List.{slice_split};
 ghost use Rattle.plain_text.specs.Decimals.{seconds};
-ghost use Rattle.outside.specs.Runs.{blank_parted, setting_words, words_of as words_for};
+ghost use Rattle.outside.specs.Runs;
 
 use objective::{Memory, Micros};
 use plain_text::{Items, Text, pieces, seconds_text};
@@ -141,7 +141,7 @@ pub fn read_program(
     dir: &str,
     cutoff_length: u32,
 ) -> Result<Program, Memory>
-    ensures { IfOk result (λ p. p ≡ record { words = blank_parted algo.now; dir = dir.now; cutoff_length = cutoff_length }) }
+    ensures { IfOk result (λ p. p ≡ record { words = Runs.program_words algo.now; dir = dir.now; cutoff_length = cutoff_length }) }
 {
     let mut words = Vec::new(alloc);
     let parts = pieces(alloc, algo, ' ')?;
@@ -165,7 +165,7 @@ fn number_text(alloc: Global, number: u32) -> Result<Text, Memory>
 
 /// Appends `-name` and the value of each setting.
 fn push_settings(alloc: Global, words: &mut Vec<Text>, settings: &[Setting]) -> Result<(), Memory>
-    ensures { OnOk result (words.new.items ≡ words.old.items ++ setting_words settings.now) }
+    ensures { OnOk result (words.new.items ≡ words.old.items ++ Runs.setting_words settings.now) }
 {
     for setting in settings {
         let name = setting.name.as_str();
@@ -177,7 +177,7 @@ fn push_settings(alloc: Global, words: &mut Vec<Text>, settings: &[Setting]) -> 
 
 /// The words that start a run of the program.
 pub fn words_of(alloc: Global, program: &Program, run: &Run) -> Result<Vec<Text>, Memory>
-    ensures { IfOk result (λ w. w.items ≡ words_for program.now run.now) }
+    ensures { IfOk result (λ w. w.items ≡ Runs.words_of program.now run.now) }
 {
     let mut words = copy_texts(alloc, program.words.as_slice())?;
     words.push(run.key.instance.copy()?)?;

@@ -1,7 +1,7 @@
 //! Output.
 ghost use Rattle.std.specs.Prelude.{◌≡◌, ℕ, ◌≤◌, List, Option, length, take, IfOk, OnErr};
-ghost use Rattle.outside.specs.Counts.{counted};
-ghost use Rattle.outside.specs.Meanings.{has_failed, after_taking, is_empty_taking};
+ghost use Rattle.outside.specs.Counts.{count_after};
+ghost use Rattle.outside.specs.Changes.{has_failed, after_taking, is_empty_taking};
 
 use crate::faults::Fault;
 
@@ -21,8 +21,8 @@ pub trait Sink {
         ensures within { IfOk result (λ n. n ≤ length piece.now) }
         ensures took { IfOk result (λ n. taken self.new ≡ after_taking (taken self.old) (take n piece.now)) }
         ensures refused { OnErr result (taken self.new ≡ taken self.old) }
-        ensures emptied { empties self.new ≡ counted (is_empty_taking result piece.now) (empties self.old) }
+        ensures emptied { empties self.new ≡ count_after (is_empty_taking result piece.now) (empties self.old) }
         ensures never_falls { empties self.old ≤ empties self.new }
-        ensures counted { faults self.new ≡ counted (has_failed result) (faults self.old) }
+        ensures counted { faults self.new ≡ count_after (has_failed result) (faults self.old) }
         ensures counts { faults self.old ≤ faults self.new };
 }

@@ -2,8 +2,8 @@
 ghost use Rattle.std.specs.Prelude.{◌≡◌, ℕ, ◌≤◌, IsTrue, not, Bool, true, false, List, Option, Some, OnOk, IfSome, is_ok, ◌||◌};
 ghost use Rattle.objective.specs.Costs.{seen};
 ghost use Rattle.objective.specs.declared.Outcome.{Outcome};
-ghost use Rattle.outside.specs.Counts.{counted};
-ghost use Rattle.outside.specs.Meanings.{has_failed, has_ended, has_look_failed, started_after, failed_after};
+ghost use Rattle.outside.specs.Counts.{count_after};
+ghost use Rattle.outside.specs.Changes.{has_failed, has_ended, has_look_failed, started_after, failed_after};
 ghost use Rattle.outside.specs.Results.{answer_of};
 ghost use Rattle.outside.specs.Runs.{AreWordsOf};
 ghost use Rattle.outside.specs.declared.runs.Key.{Key};
@@ -46,7 +46,7 @@ pub trait Spawner: Drop {
         ensures held { held self.new ≡ false }
         ensures started { started self.new ≡ started_after result (started self.old) words.now }
         ensures failed_run { failed_run self.new ≡ failed_after (has_failed result) (Some run.now) (failed_run self.old) }
-        ensures counted { faults self.new ≡ counted (has_failed result) (faults self.old) }
+        ensures counted { faults self.new ≡ count_after (has_failed result) (faults self.old) }
         ensures counts { faults self.old ≤ faults self.new };
 
     /// Looks whether the child has ended. After Ended and after a failed look no child
@@ -58,7 +58,7 @@ pub trait Spawner: Drop {
         ensures idle { idle self.new ≡ (has_ended result || has_look_failed result) }
         ensures started { started self.new ≡ started self.old }
         ensures failed_run { failed_run self.new ≡ failed_after (has_look_failed result) (current self.old) (failed_run self.old) }
-        ensures counted { faults self.new ≡ counted (has_look_failed result) (faults self.old) }
+        ensures counted { faults self.new ≡ count_after (has_look_failed result) (faults self.old) }
         ensures counts { faults self.old ≤ faults self.new };
 
     /// The output of the ended child. Where the truth is told, it is read as what the

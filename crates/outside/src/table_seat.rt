@@ -1,6 +1,6 @@
 //! A seat in memory whose runs do what a table says.
 ghost use Rattle.std.specs.Prelude.{◌≡◌, [], true, false, None, Some, IfOk};
-ghost use Rattle.objective.specs.Costs.{seen as seen_under};
+ghost use Rattle.objective.specs.Costs;
 ghost use Rattle.outside.specs.Results.{answer_of, result_line, line_of};
 ghost use Rattle.outside.specs.Seats.{Reads};
 
@@ -117,7 +117,7 @@ fn spare_of(child: Child) -> Option<Run>
 
 /// The output of a run that does what the table says.
 fn told_output<T: Table>(alloc: Global, key: &Key, cutoff: Micros) -> Result<Text, Memory>
-    ensures { IfOk result (λ t. answer_of t cutoff.0 ≡ seen_under (T.outcome key.now) cutoff.0) }
+    ensures { IfOk result (λ t. answer_of t cutoff.0 ≡ Costs.seen (T.outcome key.now) cutoff.0) }
 {
     line_text(alloc, seen(T::outcome(key), cutoff))
 }

@@ -1,5 +1,5 @@
 use Rattle.std.proofs.Common.{◌∙◌, sym, rules}
-use Rattle.outside.proofs.Lines.{answer_of-parts}
+use Rattle.outside.proofs.ResultParts.{answer_of-parts}
 use Rattle.outside.proofs.results.answer_of.Goals as goal
 
 pub returns-clause-value : goal.returns-clause-value

@@ -1,6 +1,6 @@
 use Rattle.std.proofs.Common.{◌≡◌, false, rules}
 use Rattle.outside.specs.Seats.{is_idle}
-use Rattle.outside.proofs.Ending.{Reads-from_running}
+use Rattle.outside.proofs.EndedOutput.{Reads-from_running}
 use Rattle.outside.proofs.table_seat.TableSeatSpawner.poll.Goals as goal
 
 pub invariant_of-self-2 : goal.invariant_of-self-2

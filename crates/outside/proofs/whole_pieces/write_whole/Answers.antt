@@ -1,6 +1,6 @@
 use Rattle.std.proofs.Common.{arith, refl}
-use Rattle.tuner.proofs.Taking.{more_taken, more_taken_from, part_taken, refused_part}
-use Rattle.tuner.proofs.writing.write_whole.Goals as goal
+use Rattle.outside.proofs.TakenParts.{more_taken, more_taken_from, part_taken, refused_part}
+use Rattle.outside.proofs.whole_pieces.write_whole.Goals as goal
 
 pub returns-in-Ok-eq0-clause-part : goal.returns-in-Ok-eq0-clause-part
 returns-in-Ok-eq0-clause-part g c = part_taken _ _ _ _ (more_taken _ _ _ _ _ _ c.loop-rest.invariant.taken c.in-Ok-eq0.ensures.took)

@@ -1,9 +1,7 @@
--- Worked lines and words.
-use Rattle.std.specs.Prelude.{◌≡◌, [], ◌∷◌, codes, refl}
-use Rattle.std.specs.Fmt.{digits}
+-- Worked result lines.
+use Rattle.std.specs.Prelude.{◌≡◌, [], codes, refl}
 use Rattle.objective.specs.declared.Answer.TheVariants.{Solved, Timeout, Crashed, Abort}
 use Rattle.outside.specs.Results.{answer_of}
-use Rattle.outside.specs.Runs.{words_of, blank_parted}
 
 solved : answer_of (codes "Result for ParamILS: SAT, 3.000000, 0, 0, 0\n") 10000000 ≡ Solved (record { 0 = 3000000 })
 solved = refl
@@ -32,14 +30,3 @@ other_word = refl
 
 two_lines : answer_of (codes "Result for ParamILS: SAT, 3.000000, 0, 0, 0\nResult for ParamILS: SAT, 3.000000, 0, 0, 0\n") 10000000 ≡ Crashed
 two_lines = refl
-
-parted : blank_parted (codes " sh  run\tfast ") ≡ codes "sh" ∷ codes "run" ∷ codes "fast" ∷ []
-parted = refl
-
-started_by :
-    words_of
-    (record { words = codes "w" ∷ []; dir = codes "."; cutoff_length = 2147483647 })
-    (record { key = record { instance = codes "one"; specifics = codes "0"; seed = 1; settings = record { name = codes "x"; value = codes "a" } ∷ [] }; cutoff = record { 0 = 10000000 } })
-    ≡ codes "w" ∷ codes "one" ∷ codes "0" ∷ codes "10.000000" ∷ codes "2147483647" ∷ codes "1" ∷ codes "-x" ∷ codes "a" ∷ []
-unfolding digits
-started_by = refl

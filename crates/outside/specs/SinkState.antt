@@ -1,7 +1,7 @@
 -- What contracts see of a sink in memory.
 use Rattle.std.specs.Prelude.{ℕ, List}
 
-pub record Sunk : Type 0 where
+pub record SinkState : Type 0 where
   pub bytes : List ℕ  -- what it took
   pub bad_writes : List ℕ  -- the numbers of the writes that fail
   pub empty_writes : List ℕ  -- the numbers of the writes that take nothing

@@ -1,6 +1,6 @@
 use Rattle.std.proofs.Common.{◌≤◌, length}
-use Rattle.tuner.proofs.Taking.{HasTaken}
-use Rattle.tuner.proofs.writing.write_whole.Given as goal
+use Rattle.outside.proofs.TakenParts.{HasTaken}
+use Rattle.outside.proofs.whole_pieces.write_whole.Given as goal
 
 -- all but the rest was taken
 abbrev pub invariant-loop-rest : goal.invariant-loop-rest

@@ -1,14 +1,14 @@
 //! Pieces that are written whole.
 ghost use Rattle.std.specs.Prelude.{◌≡◌, ◌≤◌, OnOk, IfErr};
-ghost use Rattle.outside.specs.Counts.{Rose};
-ghost use Rattle.outside.specs.Meanings.{after_taking};
-ghost use Rattle.tuner.specs.Writing.{TookPartOf, IsUnwrittenFor};
+ghost use Rattle.outside.specs.Changes.{after_taking};
+ghost use Rattle.outside.specs.WholePieces.{TookPartOf, IsUnwrittenFor};
 
-use outside::{Fault, Sink};
+use crate::faults::Fault;
+use crate::sink::Sink;
 
 /// Why a piece wasn't written whole.
-#[derive(Clone, Copy, Debug)]
-pub(crate) enum Unwritten {
+#[derive(Clone, Copy, Debug, PartialEq, Eq)]
+pub enum Unwritten {
     /// A write failed, or took nothing of a piece that isn't empty.
     Fault,
     /// There is no memory left.
@@ -16,7 +16,7 @@ pub(crate) enum Unwritten {
 }
 
 /// Writes a whole piece. After a refusal a first part of it was taken, and nothing else.
-pub(crate) fn write_whole<O: Sink>(out: &mut O, piece: &[u8]) -> Result<(), Unwritten>
+pub fn write_whole<O: Sink>(out: &mut O, piece: &[u8]) -> Result<(), Unwritten>
     ensures whole { OnOk result (O.taken out.new ≡ after_taking (O.taken out.old) piece.now) }
     ensures part { TookPartOf (O.taken out.old) (O.taken out.new) piece.now }
     ensures counts { O.faults out.old ≤ O.faults out.new }

@@ -1,9 +1,9 @@
 -- What a sink has taken of a text.
 use Rattle.std.specs.Prelude.{ℕ, ◌≡◌, List, take, Option}
 use Rattle.outside.specs.Counts.{Rose}
-use Rattle.outside.specs.Meanings.{after_taking}
-use Rattle.tuner.specs.declared.writing.Unwritten.{Unwritten}
-use Rattle.tuner.specs.declared.writing.Unwritten.TheVariants as unwritten
+use Rattle.outside.specs.Changes.{after_taking}
+use Rattle.outside.specs.declared.whole_pieces.Unwritten.{Unwritten}
+use Rattle.outside.specs.declared.whole_pieces.Unwritten.TheVariants as unwritten
 
 -- a first part of the text was taken, and nothing else
 pub record TookPartOf (before after : Option (List ℕ)) (text : List ℕ) : Type 0 where

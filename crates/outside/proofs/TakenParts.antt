@@ -2,8 +2,8 @@
 use Rattle.std.proofs.Common.{ℕ, ◌≡◌, ◌-◌, subst, take_all, length-drop, List, [], ◌++◌, Option, Some, None, length, take, drop, refl, sym, ap, ◌∙◌, arith, append_assoc}
 use Rattle.std.proofs.lemmas.List.{take-append-drop, append-nil}
 use Rattle.std.proofs.Math.Seq.{take-append_seam}
-use Rattle.outside.specs.Meanings.{after_taking}
-use Rattle.tuner.specs.Writing.{TookPartOf}
+use Rattle.outside.specs.Changes.{after_taking}
+use Rattle.outside.specs.WholePieces.{TookPartOf}
 
 pub record HasTaken (before after : Option (List ℕ)) (piece rest : List ℕ) : Type 0 where
   pub front : List ℕ

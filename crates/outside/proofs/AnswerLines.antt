@@ -12,7 +12,7 @@ use Rattle.objective.specs.declared.Answer.TheVariants.{Solved, Timeout, Crashed
 use Rattle.objective.specs.declared.Outcome.{Outcome}
 use Rattle.objective.specs.declared.Outcome.TheVariants as outcome
 use Rattle.outside.specs.Results.{answer_of, answer_from, answer_by, line_of, result_line, solved_within}
-use Rattle.outside.proofs.RoundTrip.{micros_of-seconds}
+use Rattle.outside.proofs.WrittenTimes.{micros_of-seconds}
 
 before_suffix-append : (xs p : List ℕ) → before_suffix p (xs ++ p) ≡ Some xs
 before_suffix-append xs p =

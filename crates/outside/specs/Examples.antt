@@ -1,0 +1,2 @@
+pub mod ResultLines
+pub mod ChildWords
