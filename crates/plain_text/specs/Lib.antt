@@ -2,10 +2,8 @@ pub mod Words
 pub mod Decimals
 pub mod Parts
 pub mod Times
+pub mod Comments
 pub mod Tokens
-pub mod TokenPlaces
-pub mod TokensAlong
-pub mod TokenTexts
 pub mod Lines
 pub mod Limits
 pub mod Faults

@@ -1,6 +1,7 @@
 //! Texts and lists as contracts see them, words, and numbers as text.
 #![tactic(auto)]
 
+mod comments;
 mod cuts;
 mod decimals;
 mod items;
@@ -14,6 +15,7 @@ mod tokenizer;
 mod trimming;
 mod words;
 
+pub use comments::uncommented;
 pub use cuts::{after_prefix, parted};
 pub use decimals::{push_seconds, read_count, seconds_text};
 pub use items::Items;

@@ -1,8 +1,10 @@
 //! Lines that are split into tokens.
-ghost use Rattle.std.specs.Prelude.{◌≡◌, ◌<◌, ◌≤◌, length, map, drop, IfOk};
+ghost use Rattle.std.specs.Prelude.{◌≡◌, ◌≤◌, ◌&&◌, not, length, map, IfOk};
 ghost use Rattle.std.specs.List.{position_or_len};
-ghost use Rattle.plain_text.specs.Tokens.{stands_alone as alone, parts_runs as parting, content as content_of, begins as begins_at, token_end as end_at, tokens as tokens_of, token_texts as texts_of};
+ghost use Rattle.plain_text.specs.Tokens;
+ghost use Rattle.plain_text.specs.Words;
 
+use crate::comments::uncommented;
 use crate::words::is_blank;
 use objective::Memory;
 use std::alloc::Global;
@@ -19,16 +21,24 @@ pub struct Token {
 /// The tokens of a line, in order: each of the bytes `{ } [ ] | , =` is one, and so is each
 /// longest run of other bytes without a space or tab. A `#` ends the line.
 #[tactic(auto, unfolding(crate::specs::Tokens::tokens))]
-pub fn tokens(alloc: Global, line: &[u8]) -> Result<Vec<Token>, Memory>
-    ensures { IfOk result (λ v. v.items ≡ tokens_of line.now) }
+pub fn tokens(alloc: Global, line: &str) -> Result<Vec<Token>, Memory>
+    ensures { IfOk result (λ v. v.items ≡ Tokens.tokens line.now) }
 {
-    let text = content(line);
+    let text = uncommented(line).as_bytes();
     let mut found = Vec::new(alloc);
+    let mut free = true;
     for place in 0..text.len() {
-        if begins(text, place) {
-            let end = token_end(text, place);
+        let byte = text[place];
+        if stands_alone(byte) {
+            found.push(Token {
+                start: place,
+                end: place + 1,
+            })?;
+        } else if begins_run(free, byte) {
+            let end = place + 1 + run_length(&text[place + 1..]);
             found.push(Token { start: place, end })?;
         }
+        free = parts_runs(byte);
     }
     Ok(found)
 }
@@ -36,67 +46,39 @@ pub fn tokens(alloc: Global, line: &[u8]) -> Result<Vec<Token>, Memory>
 /// The tokens of a line as texts.
 #[tactic(auto, unfolding(crate::specs::Tokens::token_texts))]
 pub fn token_texts<'a>(alloc: Global, line: &'a str) -> Result<Vec<&'a str>, Memory>
-    ensures { IfOk result (λ v. map (λ x. x.now) v.items ≡ texts_of line.now) }
+    ensures { IfOk result (λ v. map (λ x. x.now) v.items ≡ Tokens.token_texts line.now) }
 {
     let mut texts = Vec::new(alloc);
-    for token in &tokens(alloc, line.as_bytes())? {
+    for token in &tokens(alloc, line)? {
         texts.push(&line[token.start..token.end])?;
     }
     Ok(texts)
 }
 
-/// A line without its comment.
-fn content(line: &[u8]) -> &[u8]
-    ensures { result.now ≡ content_of line.now }
-{
-    let end = line.iter().position(|b| *b == b'#').unwrap_or(line.len());
-    &line[..end]
-}
-
 /// Whether the byte is a token of its own.
 fn stands_alone(byte: u8) -> bool
-    ensures { result ≡ alone byte }
+    ensures { result ≡ Tokens.stands_alone byte }
 {
     matches!(byte, b'{' | b'}' | b'[' | b']' | b'|' | b',' | b'=')
 }
 
 /// Whether the byte is in no run.
 fn parts_runs(byte: u8) -> bool
-    ensures { result ≡ parting byte }
+    ensures { result ≡ Tokens.parts_runs byte }
 {
     is_blank(byte) || stands_alone(byte)
 }
 
-/// Whether a token begins at a place.
-#[tactic(auto, unfolding(crate::specs::Tokens::begins))]
-fn begins(text: &[u8], place: usize) -> bool
-    requires { place < length text.now }
-    ensures { result ≡ begins_at text.now place }
+/// Whether a run begins with a byte that is no token of its own; `free` where none goes on there.
+fn begins_run(free: bool, byte: u8) -> bool
+    ensures { result ≡ (free && not (Words.is_blank byte)) }
 {
-    if stands_alone(text[place]) {
-        return true;
-    }
-    if parts_runs(text[place]) {
-        return false;
-    }
-    place == 0 || parts_runs(text[place - 1])
-}
-
-/// Where the token ends that begins at a place.
-#[tactic(auto, unfolding(crate::specs::Tokens::token_end))]
-fn token_end(text: &[u8], place: usize) -> usize
-    requires { place < length text.now }
-    ensures { result ≡ end_at text.now place }
-{
-    if stands_alone(text[place]) {
-        return place + 1;
-    }
-    place + run_length(&text[place..])
+    free && !is_blank(byte)
 }
 
 /// The length of the run at the head of a text.
 fn run_length(text: &[u8]) -> usize
-    ensures value { result ≡ position_or_len parting text.now }
+    ensures value { result ≡ position_or_len Tokens.parts_runs text.now }
     ensures within { result ≤ length text.now }
 {
     text.iter()

@@ -1,14 +1,29 @@
-use Rattle.std.proofs.Common.{◌∙◌, ap, sym}
-use Rattle.plain_text.proofs.TokenSteps.{none_before, one_more, no_more}
+use Rattle.std.proofs.Common.{true, ◌∙◌, ap, sym, refl, get_or}
+use Rattle.std.specs.List.{position_or_len}
+use Rattle.plain_text.specs.Tokens.{parts_runs, tokens_after, tokens}
+use Rattle.plain_text.proofs.TokenSteps.{none_yet, rest_taken, mark_more, run_more, none_more, all_found}
 use Rattle.plain_text.proofs.tokenizer.tokens.Goals as goal
-use Rattle.plain_text.proofs.tokenizer.tokens.Goals.{then-begins+in_ok-push, else-begins}
+use Rattle.plain_text.proofs.tokenizer.tokens.Goals.{then-stands_alone+in_ok-push, else-stands_alone+then-begins_run+in_ok-push-2, else-stands_alone+else-begins_run}
 
 pub loop-place-init : goal.loop-place-init
-loop-place-init c = c.new-found.ensures.items ∙ none_before c.content-text.result.now
+loop-place-init c = none_yet c.as_bytes-text.result.now c.new-found.result.items c.new-found.ensures.items
 
 pub loop-place-preserved : goal.loop-place-preserved
 loop-place-preserved c =
-    elim c.if-begins.branch [
-      | then-begins+in_ok-push w ↦ ap (λ v. v.items) w.found-is ∙ one_more c.content-text.result.now c.loop-place.place w.token_end-end.result c.loop-place.found.items w.push.new.self.items (sym c.begins.ensures ∙ w.if-begins.true) w.token_end-end.ensures c.loop-place.invariant w.in_ok-push.ensures.items
-      | else-begins w ↦ ap (λ v. v.items) w.found-is ∙ no_more c.content-text.result.now c.loop-place.place c.loop-place.found.items (sym c.begins.ensures ∙ w.if-begins.false) c.loop-place.invariant
+    let text = c.as_bytes-text.result.now in
+    let place = c.loop-place.place in
+    let byte = get_or text place 0 in
+    let old = c.loop-place.found.items in
+    let new = c.if-stands_alone.found.items in
+    let next = c.parts_runs-free.result in
+    let all = tokens_after true 0 text in
+    elim c.if-stands_alone.branch [
+      | then-stands_alone+in_ok-push w ↦ mark_more text place byte c.loop-place.free next old new all c.loop-place-test.true refl c.parts_runs-free.ensures c.loop-place.invariant (sym c.stands_alone.ensures ∙ w.if-stands_alone.true) (ap (λ v. v.items) w.found-is ∙ w.in_ok-push.ensures.items)
+      | else-stands_alone+then-begins_run+in_ok-push-2 w ↦ run_more text place byte c.loop-place.free next old new all c.loop-place-test.true refl c.parts_runs-free.ensures c.loop-place.invariant w.run_length.result (sym c.stands_alone.ensures ∙ w.if-stands_alone.false) (sym w.begins_run.ensures ∙ w.if-begins_run.true) (w.run_length.ensures.value ∙ ap (position_or_len parts_runs) (rest_taken text place)) (ap (λ v. v.items) w.found-is ∙ w.in_ok-push-2.ensures.items)
+      | else-stands_alone+else-begins_run w ↦ none_more text place byte c.loop-place.free next old new all c.loop-place-test.true refl c.parts_runs-free.ensures c.loop-place.invariant (sym c.stands_alone.ensures ∙ w.if-stands_alone.false) (sym w.begins_run.ensures ∙ w.if-begins_run.false) (ap (λ v. v.items) w.found-is)
     ]
+
+pub returns : goal.returns
+unfolding tokens
+returns c =
+    all_found c.as_bytes-text.result.now c.loop-place.free c.loop-place.place c.loop-place.found.items _ c.loop-place-test.false c.loop-place.invariant ∙ ap (tokens_after true 0) (c.as_bytes-text.ensures.value ∙ c.uncommented.ensures)

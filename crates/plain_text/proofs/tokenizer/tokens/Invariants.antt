@@ -1,7 +1,7 @@
-use Rattle.std.proofs.Common.{◌≡◌}
-use Rattle.plain_text.specs.Tokens.{tokens_before}
+use Rattle.std.proofs.Common.{◌≡◌, ◌++◌, true, drop}
+use Rattle.plain_text.specs.Tokens.{tokens_after}
 use Rattle.plain_text.proofs.tokenizer.tokens.Given as goal
 
--- the tokens that begin before the place
+-- the tokens so far, and those of what is left, are all
 abbrev pub invariant-loop-place : goal.invariant-loop-place
-invariant-loop-place l = l.found.items ≡ tokens_before l.text l.place
+invariant-loop-place l = l.found.items ++ tokens_after l.free l.place (drop l.place l.text) ≡ tokens_after true 0 l.text
