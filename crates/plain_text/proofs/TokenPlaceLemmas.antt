@@ -128,16 +128,21 @@ module _ (line : List ℕ) (utf8 : IsUtf8 line) where
       by false false false k a s later = later false (λ h. absurd (false≢true h))
 
   -- a comment begins between characters, or the line ends
+  pub comment_boundary : IsCharBoundary line (position_or_len (λ b. b == 35) line)
+  comment_boundary =
+      let n = position_or_len (λ b. b == 35) line in
+      let most : n ≤ length line = prefix_len-le-length (λ b. not (b == 35)) line in
+      elim (cases_lt n (length line)) [
+        | inl less ↦ IsCharBoundary-before_ascii line n less (comment_ascii (get_or line n 0) (passes_at_first (λ b. b == 35) line 0 less))
+        | inr all ↦ subst (IsCharBoundary line) (omega (arith, most, all)) (IsCharBoundary-end line)
+      ]
+
   at_end : IsCharBoundary line (length (uncommented line))
   at_end =
       let n = position_or_len (λ b. b == 35) line in
       let most : n ≤ length line = prefix_len-le-length (λ b. not (b == 35)) line in
-      let size : length (uncommented line) ≡ n = omega (arith, most, length-take n line) in
-      let here : IsCharBoundary line n =
-      elim (cases_lt n (length line)) [
-        | inl less ↦ IsCharBoundary-before_ascii line n less (comment_ascii (get_or line n 0) (passes_at_first (λ b. b == 35) line 0 less))
-        | inr all ↦ subst (IsCharBoundary line) (omega (arith, most, all)) (IsCharBoundary-end line)
-      ] in subst (IsCharBoundary line) (sym size) here
+      let size : n ≡ length (uncommented line) = omega (arith, most, length-take n line) in
+      subst (IsCharBoundary line) size comment_boundary
 
   -- the tokens of a line cut it between characters
   pub tokens_cut : All (IsTokenCut line) (tokens line)

@@ -1,15 +1,19 @@
 //! Comments at the ends of lines.
-ghost use Rattle.std.specs.Prelude.{◌≡◌};
+ghost use Rattle.std.specs.Prelude.{◌≡◌, ◌≤◌, ◌==◌, length};
+ghost use Rattle.std.specs.List.{position_or_len};
 ghost use Rattle.plain_text.specs.Comments;
-
-use crate::cuts::parted;
 
 /// What stands before the first `#` of a line. Takes no memory.
 pub fn uncommented(line: &str) -> &str
     ensures { result.now ≡ Comments.uncommented line.now }
 {
-    match parted(line, '#') {
-        Some((before, _)) => before,
-        None => line,
-    }
+    &line[..comment_place(line.as_bytes())]
+}
+
+/// The place of the first `#`; the length where there is none.
+pub(crate) fn comment_place(line: &[u8]) -> usize
+    ensures value { result ≡ position_or_len (λ b. b == 35) line.now }
+    ensures within { result ≤ length line.now }
+{
+    line.iter().position(|b| *b == b'#').unwrap_or(line.len())
 }

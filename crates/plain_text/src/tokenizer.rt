@@ -4,7 +4,7 @@ ghost use Rattle.std.specs.List.{position_or_len};
 ghost use Rattle.plain_text.specs.Tokens;
 ghost use Rattle.plain_text.specs.Words;
 
-use crate::comments::uncommented;
+use crate::comments::comment_place;
 use crate::words::is_blank;
 use objective::Memory;
 use std::alloc::Global;
@@ -21,10 +21,10 @@ pub struct Token {
 /// The tokens of a line, in order: each of the bytes `{ } [ ] | , =` is one, and so is each
 /// longest run of other bytes without a space or tab. A `#` ends the line.
 #[tactic(auto, unfolding(crate::specs::Tokens::tokens))]
-pub fn tokens(alloc: Global, line: &str) -> Result<Vec<Token>, Memory>
+pub fn tokens(alloc: Global, line: &[u8]) -> Result<Vec<Token>, Memory>
     ensures { IfOk result (λ v. v.items ≡ Tokens.tokens line.now) }
 {
-    let text = uncommented(line).as_bytes();
+    let text = &line[..comment_place(line)];
     let mut found = Vec::new(alloc);
     let mut free = true;
     for place in 0..text.len() {
@@ -49,7 +49,7 @@ pub fn token_texts<'a>(alloc: Global, line: &'a str) -> Result<Vec<&'a str>, Mem
     ensures { IfOk result (λ v. map (λ x. x.now) v.items ≡ Tokens.token_texts line.now) }
 {
     let mut texts = Vec::new(alloc);
-    for token in &tokens(alloc, line)? {
+    for token in &tokens(alloc, line.as_bytes())? {
         texts.push(&line[token.start..token.end])?;
     }
     Ok(texts)

@@ -1,4 +1,4 @@
-use Rattle.std.proofs.Common.{true, ◌∙◌, ap, sym, refl, get_or}
+use Rattle.std.proofs.Common.{true, ◌∙◌, ap, sym, refl, get_or, take}
 use Rattle.std.specs.List.{position_or_len}
 use Rattle.plain_text.specs.Tokens.{parts_runs, tokens_after, tokens}
 use Rattle.plain_text.proofs.TokenSteps.{none_yet, rest_taken, mark_more, run_more, none_more, all_found}
@@ -6,11 +6,11 @@ use Rattle.plain_text.proofs.tokenizer.tokens.Goals as goal
 use Rattle.plain_text.proofs.tokenizer.tokens.Goals.{then-stands_alone+in_ok-push, else-stands_alone+then-begins_run+in_ok-push-2, else-stands_alone+else-begins_run}
 
 pub loop-place-init : goal.loop-place-init
-loop-place-init c = none_yet c.as_bytes-text.result.now c.new-found.result.items c.new-found.ensures.items
+loop-place-init c = none_yet (take c.comment_place.result c.args.line.now) c.new-found.result.items c.new-found.ensures.items
 
 pub loop-place-preserved : goal.loop-place-preserved
 loop-place-preserved c =
-    let text = c.as_bytes-text.result.now in
+    let text = take c.comment_place.result c.args.line.now in
     let place = c.loop-place.place in
     let byte = get_or text place 0 in
     let old = c.loop-place.found.items in
@@ -26,4 +26,4 @@ loop-place-preserved c =
 pub returns : goal.returns
 unfolding tokens
 returns c =
-    all_found c.as_bytes-text.result.now c.loop-place.free c.loop-place.place c.loop-place.found.items _ c.loop-place-test.false c.loop-place.invariant ∙ ap (tokens_after true 0) (c.as_bytes-text.ensures.value ∙ c.uncommented.ensures)
+    all_found (take c.comment_place.result c.args.line.now) c.loop-place.free c.loop-place.place c.loop-place.found.items _ c.loop-place-test.false c.loop-place.invariant ∙ ap (λ n. tokens_after true 0 (take n c.args.line.now)) c.comment_place.ensures.value
