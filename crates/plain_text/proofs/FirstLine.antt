@@ -1,10 +1,13 @@
 -- The first line of a text, and the others.
-use Rattle.std.proofs.Common.{ℕ, suc, ◌≡◌, ◌<◌, ◌+◌, ◌==◌, Bool, true, false, List, [], ◌∷◌, length, take, drop, refl, sym, ap, ◌∙◌, arith}
+use Rattle.std.proofs.Common.{ℕ, suc, ◌≡◌, ◌<◌, ◌+◌, ◌-◌, ◌==◌, Bool, true, false, List, [], ◌∷◌, length, take, drop, refl, sym, ap, ◌∙◌, arith}
 use Rattle.std.proofs.lemmas.Bool.{eqb-true}
+use Rattle.std.proofs.lemmas.List.{length-take, length-drop}
 use Rattle.std.proofs.lemmas.List.Splits.{slice_split_first, slice_split-cons_no, length-slice_split}
 use Rattle.std.specs.List.{slice_split, onto_first, position_or_len}
+use Rattle.plain_text.specs.declared.line_places.Line.{Line}
+use Rattle.plain_text.specs.LinePlaces.{line_at, places_of, IsFirstLine}
 use Rattle.plain_text.specs.Lines.{is_break, without_return, lines_among, lines, numbered_from}
-use Rattle.plain_text.proofs.Kept.{drop_all}
+use Rattle.plain_text.proofs.KeptDigits.{drop_all}
 
 -- an empty text has no lines
 pub lines-none : (text : List ℕ) → length text ≡ 0 → lines text ≡ []
@@ -62,3 +65,44 @@ pub numbered-none_by : (n : ℕ) (text : List ℕ) (seen : List (ℕ × List ℕ
 numbered-none_by n text seen test e =
     let size : length text ≡ 0 = eqb-true (length text) 0 (sym test) in
     let none : seen ≡ [] = sym e ∙ numbered-none n text size in (none, none)
+
+-- ---- places
+
+-- what no line feed ends is one line, at its place
+pub places-open : (text later : List ℕ) (place : ℕ) → 0 < length text → place ≡ position_or_len is_break text → place ≡ length text → later ≡ drop place text → IsFirstLine text text later
+unfolding places_of
+places-open [] later place some first all rest given start = absurd (omega (arith, some))
+places-open (b ∷ text) later place some first all rest given start =
+    let parts = unbroken (b ∷ text) (sym first ∙ all) in
+    let none : later ≡ [] = rest ∙ drop_all place (b ∷ text) (omega (arith, all)) in
+    ap (places_of given start) parts
+    ∙ ap (λ xs. line_at given start (length (b ∷ text)) ∷ places_of (given + 1) (start + (length (b ∷ text) - length later)) (slice_split is_break xs)) (sym none)
+
+-- a part before others
+places_more : (given start : ℕ) (part : List ℕ) (parts : List (List ℕ)) → 0 < length parts → places_of given start (part ∷ parts) ≡ line_at given start (length (without_return part)) ∷ places_of (given + 1) (start + length part + 1) parts
+unfolding places_of
+places_more given start part [] some = absurd (omega (arith, some))
+places_more given start part (next ∷ parts) some = refl
+
+-- a line before a line feed, at its place
+pub places-ended : (text line later : List ℕ) (place : ℕ) → place ≡ position_or_len is_break text → place < length text → line ≡ without_return (take place text) → later ≡ drop (place + 1) text → IsFirstLine text line later
+places-ended text line later place first inside ends rest given start =
+    let after = slice_split is_break (drop (place + 1) text) in
+    let parts : slice_split is_break text ≡ take place text ∷ after =
+    slice_split_first is_break text 0 (omega (arith, first, inside)) ∙ ap (λ k. take k text ∷ slice_split is_break (drop (k + 1) text)) (sym first) in
+    let size : length later ≡ length text - (place + 1) = ap length rest ∙ length-drop (place + 1) text in
+    let next : start + length (take place text) + 1 ≡ start + (length text - length later) = omega (arith, inside, size, length-take place text) in
+    ap (places_of given start) parts
+    ∙ places_more given start (take place text) after (omega (arith, length-slice_split is_break (drop (place + 1) text)))
+    ∙ (λ i. line_at given start (length (sym ends i)) ∷ places_of (given + 1) (next i) (slice_split is_break (sym rest i)))
+
+-- no places are left of an empty text
+places-none : (given start : ℕ) (text : List ℕ) → length text ≡ 0 → places_of given start (slice_split is_break text) ≡ []
+unfolding places_of
+places-none given start [] e = refl
+places-none given start (b ∷ text) e = absurd (omega (arith, e))
+
+-- the same, from what the code's test says
+pub places-none_by : (given start : ℕ) (text : List ℕ) (seen : List Line) → true ≡ (length text == 0) → places_of given start (slice_split is_break text) ≡ seen → (seen ≡ []) × (seen ≡ [])
+places-none_by given start text seen test e =
+    let none : seen ≡ [] = sym e ∙ places-none given start text (eqb-true (length text) 0 (sym test)) in (none, none)

@@ -47,12 +47,12 @@ abbrev pub is_negative : List ℕ → Bool
 is_negative power = get_or power 0 0 == 45
 
 -- an exponent without its sign
-abbrev pub unsigned : List ℕ → List ℕ
-unsigned power = drop (if is_signed power then 1 else 0) power
+abbrev pub without_sign : List ℕ → List ℕ
+without_sign power = drop (if is_signed power then 1 else 0) power
 
 -- the size of an exponent of one to three digits
 unfoldable pub power_size : List ℕ → Option ℕ
-power_size power = if nat_lt (length (unsigned power)) 4 then count_of (unsigned power) else None
+power_size power = if nat_lt (length (without_sign power)) 4 then count_of (without_sign power) else None
 
 -- by how many places an exponent moves the point to the right and to the left
 unfoldable pub power_shifts : List ℕ → Option (ℕ × ℕ)

@@ -1,12 +1,12 @@
 //! What stands before, between and after other texts.
 ghost use Rattle.std.specs.Prelude.{◌≡◌, ◌<◌, option_map};
 ghost use Rattle.std.specs.Option.{option_copied};
-ghost use Rattle.plain_text.specs.Parts.{after_prefix as following, parted as cut};
+ghost use Rattle.plain_text.specs.Parts;
 
 /// What follows `prefix` at the head of `text`. None exactly where the text doesn't begin
 /// with it. Takes no memory.
 pub fn after_prefix<'a>(text: &'a str, prefix: &str) -> Option<&'a str>
-    ensures { option_copied result ≡ following prefix.now text.now }
+    ensures { option_copied result ≡ Parts.after_prefix prefix.now text.now }
 {
     text.strip_prefix(prefix)
 }
@@ -15,7 +15,7 @@ pub fn after_prefix<'a>(text: &'a str, prefix: &str) -> Option<&'a str>
 /// Takes no memory.
 pub fn parted(text: &str, separator: char) -> Option<(&str, &str)>
     requires { separator < 128 }
-    ensures { option_map (λ p. (p.0.now, p.1.now)) result ≡ cut separator text.now }
+    ensures { option_map (λ p. (p.0.now, p.1.now)) result ≡ Parts.parted separator text.now }
 {
     text.split_once(separator)
 }

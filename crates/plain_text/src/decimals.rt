@@ -1,5 +1,7 @@
 //! Counts that are read and seconds that are written.
 ghost use Rattle.std.specs.Prelude.{◌≡◌, ◌++◌, IfOk, OnOk, OnErr};
+ghost use Rattle.std.specs.Char.{is_ascii_digit};
+ghost use Rattle.std.specs.List.{list_all};
 ghost use Rattle.plain_text.specs.Decimals.{count_of, seconds};
 
 use crate::text::Text;
@@ -7,15 +9,20 @@ use objective::Memory;
 use std::alloc::Global;
 use std::str;
 
+/// Whether each byte is a decimal digit. Takes no memory.
+pub fn all_digits(text: &[u8]) -> bool
+    ensures { result ≡ list_all is_ascii_digit text.now }
+{
+    text.iter().all(|b| b.is_ascii_digit())
+}
+
 /// Reads a count: one or more decimal digits. None exactly where the text is anything
 /// else or the number exceeds the greatest u64. Takes no memory.
 pub fn read_count(text: &[u8]) -> Option<u64>
     ensures { result ≡ count_of text.now }
 {
-    for digit in text {
-        if !digit.is_ascii_digit() {
-            return None;
-        }
+    if !all_digits(text) {
+        return None;
     }
     match str::from_utf8(text) {
         Ok(digits) => digits.parse::<u64>().ok(),

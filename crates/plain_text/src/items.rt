@@ -1,8 +1,16 @@
 //! A list of values that contracts see as a list.
-ghost use Rattle.std.specs.Prelude.{◌≡◌};
+ghost use Rattle.std.specs.Prelude.{◌≡◌, IfOk};
 
+use objective::Memory;
 use std::alloc::Global;
 use std::marker::Model;
+
+/// A value that has copies.
+pub trait Copied: Sized {
+    /// The same value.
+    fn copied(&self) -> Result<Self, Memory>
+        ensures { IfOk result (λ c. c ≡ self.now) };
+}
 
 /// A list that contracts see as the list of its values. It keeps its allocator.
 #[derive(Drop)]
@@ -36,5 +44,18 @@ impl<T> Items<T> {
     /// The allocator that the list keeps.
     pub fn allocator(&self) -> &Global {
         self.inner.allocator()
+    }
+}
+
+impl<T: Copied + Drop> Items<T> {
+    /// The same list. Each value is copied.
+    pub fn copy(&self) -> Result<Items<T>, Memory>
+        ensures { IfOk result (λ c. c ≡ self.now) }
+    {
+        let mut copies = Vec::new(*self.inner.allocator());
+        for value in self.as_slice() {
+            copies.push(value.copied()?)?;
+        }
+        Ok(Items::new(copies))
     }
 }

@@ -1,12 +1,14 @@
 //! Texts and lists as contracts see them, words, and numbers as text.
 #![tactic(auto)]
 
+mod breaks;
 mod comments;
 mod cuts;
 mod decimals;
 mod items;
 mod limits;
-mod lines;
+mod line_places;
+mod line_texts;
 mod parts;
 mod text;
 mod texts;
@@ -17,10 +19,11 @@ mod words;
 
 pub use comments::uncommented;
 pub use cuts::{after_prefix, parted};
-pub use decimals::{push_seconds, read_count, seconds_text};
-pub use items::Items;
+pub use decimals::{all_digits, push_seconds, read_count, seconds_text};
+pub use items::{Copied, Items};
 pub use limits::MAX_BYTES;
-pub use lines::{NumberedLine, NumberedLines, numbered_lines};
+pub use line_places::{Line, TextLines, lines};
+pub use line_texts::{NumberedLine, NumberedLines, numbered_lines};
 pub use parts::pieces;
 pub use text::Text;
 pub use texts::{has_text, place_of, texts_differ};

@@ -1,6 +1,7 @@
 //! A text that contracts see as its bytes.
 ghost use Rattle.std.specs.Prelude.{◌≡◌, IfOk, string_bytes};
 
+use crate::items::Copied;
 use objective::Memory;
 use std::alloc::Global;
 use std::marker::Model;
@@ -50,5 +51,11 @@ impl Text {
         Ok(Text {
             inner: self.inner.clone()?,
         })
+    }
+}
+
+impl Copied for Text {
+    fn copied(&self) -> Result<Text, Memory> {
+        self.copy()
     }
 }

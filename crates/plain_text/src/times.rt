@@ -3,9 +3,10 @@ ghost use Rattle.std.specs.Prelude.{◌≡◌, ◌+◌, ◌*◌, ◌^◌, ◌<�
 ghost use Rattle.std.specs.Char.{is_ascii_digit};
 ghost use Rattle.std.specs.List.{list_all, list_any, position_or_len};
 ghost use Rattle.std.specs.Str.Parse.{digits_value_after};
-ghost use Rattle.plain_text.specs.Times.{is_more, is_letter, is_point, is_negative as negative, unsigned as without_sign, are_digits as digits_around, power_size as size_of, power_shifts as shifts_of, shifts as shifts_in, micros_of, in_range as ranged, micros_read};
+ghost use Rattle.plain_text.specs.Times;
+ghost use Rattle.plain_text.specs.Times.{is_more, is_letter, is_point, micros_of, micros_read};
 
-use crate::decimals::read_count;
+use crate::decimals::{all_digits, read_count};
 use objective::Micros;
 
 /// The first number of microseconds that is too large.
@@ -44,7 +45,7 @@ pub fn read_micros(text: &[u8]) -> Result<Micros, TimeFault>
 /// The time of these microseconds, of which LIMIT stands for all that are too large.
 #[tactic(auto, unfolding(crate::specs::Times::in_range))]
 fn in_range(micros: u128) -> Result<Micros, TimeFault>
-    ensures { result ≡ ranged micros }
+    ensures { result ≡ Times.in_range micros }
 {
     if micros < LIMIT {
         return Ok(Micros(micros as u64));
@@ -80,16 +81,9 @@ fn after_place(text: &[u8], place: usize) -> &[u8]
 
 /// Whether there are only digits before and after the point, and at least one.
 fn are_digits(before: &[u8], after: &[u8]) -> bool
-    ensures { result ≡ digits_around before.now after.now }
+    ensures { result ≡ Times.are_digits before.now after.now }
 {
     all_digits(before) && all_digits(after) && !(before.is_empty() && after.is_empty())
-}
-
-/// Whether each byte is a digit.
-fn all_digits(text: &[u8]) -> bool
-    ensures { result ≡ list_all is_ascii_digit text.now }
-{
-    text.iter().all(|b| b.is_ascii_digit())
 }
 
 /// Whether some byte is no zero.
@@ -103,7 +97,7 @@ fn any_nonzero(digits: &[u8]) -> bool
 /// left. None where a text stands after an `e` that is no exponent.
 #[tactic(auto, unfolding(crate::specs::Times::shifts))]
 fn shifts(text: &[u8]) -> Option<(usize, usize)>
-    ensures value { result ≡ shifts_in text.now }
+    ensures value { result ≡ Times.shifts text.now }
     ensures small { IfSome result (λ s. (s.0 < 1000) × (s.1 < 1000)) }
 {
     let place = letter_place(text);
@@ -116,7 +110,7 @@ fn shifts(text: &[u8]) -> Option<(usize, usize)>
 /// By how many places an exponent moves the point to the right and to the left.
 #[tactic(auto, unfolding(crate::specs::Times::power_shifts))]
 fn power_shifts(power: &[u8]) -> Option<(usize, usize)>
-    ensures value { result ≡ shifts_of power.now }
+    ensures value { result ≡ Times.power_shifts power.now }
     ensures small { IfSome result (λ s. (s.0 < 1000) × (s.1 < 1000)) }
 {
     match power_size(power) {
@@ -132,14 +126,14 @@ fn power_shifts(power: &[u8]) -> Option<(usize, usize)>
 
 /// Whether a minus stands in front.
 fn is_negative(power: &[u8]) -> bool
-    ensures { result ≡ negative power.now }
+    ensures { result ≡ Times.is_negative power.now }
 {
     !power.is_empty() && power[0] == b'-'
 }
 
 /// An exponent without its sign.
-fn unsigned(power: &[u8]) -> &[u8]
-    ensures { result.now ≡ without_sign power.now }
+fn without_sign(power: &[u8]) -> &[u8]
+    ensures { result.now ≡ Times.without_sign power.now }
 {
     if !power.is_empty() && (power[0] == b'+' || power[0] == b'-') {
         return &power[1..];
@@ -150,10 +144,10 @@ fn unsigned(power: &[u8]) -> &[u8]
 /// The size of an exponent. None where it isn't one to three digits, with a sign or none.
 #[tactic(auto, unfolding(crate::specs::Times::power_size))]
 fn power_size(power: &[u8]) -> Option<usize>
-    ensures value { result ≡ size_of power.now }
+    ensures value { result ≡ Times.power_size power.now }
     ensures small { IfSome result (λ n. n < 1000) }
 {
-    let digits = unsigned(power);
+    let digits = without_sign(power);
     if digits.len() > 3 {
         return None;
     }

@@ -1,16 +1,16 @@
 //! Texts without blanks at their ends, and their first words.
 ghost use Rattle.std.specs.Prelude.{◌≡◌, ◌-◌, ◌<◌, ◌≤◌, true, length, slice_index};
 ghost use Rattle.std.specs.List.{prefix_len, suffix_len, position_or_len};
-ghost use Rattle.plain_text.specs.Words.{is_blank as blank};
-ghost use Rattle.plain_text.specs.Trimming.{front_trimmed as without_front, end_trimmed as without_end, trimmed as without_blanks, first_word as word, after_word as further};
+ghost use Rattle.plain_text.specs.Trimming;
+ghost use Rattle.plain_text.specs.Words;
 
 use crate::words::is_blank;
 
 /// How many blanks there are at the beginning.
 fn blanks_before(bytes: &[u8]) -> usize
-    ensures value { result ≡ prefix_len blank bytes.now }
+    ensures value { result ≡ prefix_len Words.is_blank bytes.now }
     ensures within { result ≤ length bytes.now }
-    ensures blank { 0 < result → blank (slice_index bytes.now (result - 1)) ≡ true }
+    ensures blank { 0 < result → Words.is_blank (slice_index bytes.now (result - 1)) ≡ true }
 {
     for (i, byte) in bytes.iter().enumerate() {
         if !is_blank(*byte) {
@@ -22,9 +22,9 @@ fn blanks_before(bytes: &[u8]) -> usize
 
 /// How many bytes are left without the blanks at the end.
 fn size_without_end(bytes: &[u8]) -> usize
-    ensures value { result ≡ length bytes.now - suffix_len blank bytes.now }
+    ensures value { result ≡ length bytes.now - suffix_len Words.is_blank bytes.now }
     ensures within { result ≤ length bytes.now }
-    ensures blank { result < length bytes.now → blank (slice_index bytes.now result) ≡ true }
+    ensures blank { result < length bytes.now → Words.is_blank (slice_index bytes.now result) ≡ true }
 {
     let mut size = bytes.len();
     while size > 0 && is_blank(bytes[size - 1]) {
@@ -35,9 +35,9 @@ fn size_without_end(bytes: &[u8]) -> usize
 
 /// The place of the first blank; the length where there is none.
 fn first_blank(bytes: &[u8]) -> usize
-    ensures value { result ≡ position_or_len blank bytes.now }
+    ensures value { result ≡ position_or_len Words.is_blank bytes.now }
     ensures within { result ≤ length bytes.now }
-    ensures blank { result < length bytes.now → blank (slice_index bytes.now result) ≡ true }
+    ensures blank { result < length bytes.now → Words.is_blank (slice_index bytes.now result) ≡ true }
 {
     for (i, byte) in bytes.iter().enumerate() {
         if is_blank(*byte) {
@@ -49,35 +49,35 @@ fn first_blank(bytes: &[u8]) -> usize
 
 /// The text without the blanks at its beginning.
 pub fn front_trimmed(text: &str) -> &str
-    ensures { result.now ≡ without_front text.now }
+    ensures { result.now ≡ Trimming.front_trimmed text.now }
 {
     &text[blanks_before(text.as_bytes())..]
 }
 
 /// The text without the blanks at its end.
 pub fn end_trimmed(text: &str) -> &str
-    ensures { result.now ≡ without_end text.now }
+    ensures { result.now ≡ Trimming.end_trimmed text.now }
 {
     &text[..size_without_end(text.as_bytes())]
 }
 
 /// The text without the blanks around it.
 pub fn trimmed(text: &str) -> &str
-    ensures { result.now ≡ without_blanks text.now }
+    ensures { result.now ≡ Trimming.trimmed text.now }
 {
     end_trimmed(front_trimmed(text))
 }
 
 /// What stands before the first blank.
 pub fn first_word(text: &str) -> &str
-    ensures { result.now ≡ word text.now }
+    ensures { result.now ≡ Trimming.first_word text.now }
 {
     &text[..first_blank(text.as_bytes())]
 }
 
 /// The rest from the first blank on.
 pub fn after_word(text: &str) -> &str
-    ensures { result.now ≡ further text.now }
+    ensures { result.now ≡ Trimming.after_word text.now }
 {
     &text[first_blank(text.as_bytes())..]
 }

@@ -1,10 +1,10 @@
 //! Blanks and the bytes of words.
 ghost use Rattle.std.specs.Prelude.{◌≡◌};
-ghost use Rattle.plain_text.specs.Words.{is_blank as blank, is_word_byte as word_byte, is_word as word};
+ghost use Rattle.plain_text.specs.Words;
 
 /// Whether the byte is a space or a tab.
 pub fn is_blank(byte: u8) -> bool
-    ensures { result ≡ blank byte }
+    ensures { result ≡ Words.is_blank byte }
 {
     byte == b' ' || byte == b'\t'
 }
@@ -12,7 +12,7 @@ pub fn is_blank(byte: u8) -> bool
 /// Whether the byte may stand in a word: it is no ASCII control character, no space
 /// and none of `{ } [ ] | , = #`.
 fn is_word_byte(byte: u8) -> bool
-    ensures { result ≡ word_byte byte }
+    ensures { result ≡ Words.is_word_byte byte }
 {
     !(byte <= b' '
         || byte == 127
@@ -21,7 +21,7 @@ fn is_word_byte(byte: u8) -> bool
 
 /// Whether the text is one or more word characters.
 pub fn is_word(text: &str) -> bool
-    ensures { result ≡ word text.now }
+    ensures { result ≡ Words.is_word text.now }
 {
     for byte in text.as_bytes() {
         if !is_word_byte(*byte) {

@@ -3,4 +3,4 @@ use Rattle.plain_text.proofs.Places.{count_small}
 use Rattle.plain_text.proofs.times.power_size.Goals as goal
 
 pub returns-in-Some-clause-small : goal.returns-in-Some-clause-small
-returns-in-Some-clause-small c = count_small c.unsigned-digits.result.now c.in-Some.size (omega (arith, c)) c.in-Some.ensures
+returns-in-Some-clause-small c = count_small c.without_sign-digits.result.now c.in-Some.size (omega (arith, c)) c.in-Some.ensures

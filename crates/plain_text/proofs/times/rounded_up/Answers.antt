@@ -1,7 +1,7 @@
 use Rattle.std.proofs.Common.{ℕ, ◌-◌, ◌||◌, Bool, cond, length, take, drop, ap, ◌∙◌}
 use Rattle.std.specs.List.{list_any}
 use Rattle.plain_text.specs.Times.{is_more}
-use Rattle.plain_text.proofs.Kept.{digits_taken, drop_rest, kept_bounded}
+use Rattle.plain_text.proofs.KeptDigits.{digits_taken, drop_rest, kept_bounded}
 use Rattle.plain_text.proofs.times.rounded_up.Goals as goal
 
 pub read_on-requires-clause-digits : goal.read_on-requires-clause-digits

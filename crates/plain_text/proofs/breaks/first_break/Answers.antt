@@ -3,7 +3,7 @@ use Rattle.std.proofs.lemmas.Iterator.{YieldsList-from_slice}
 use Rattle.std.proofs.lemmas.Iterator.Search.{position_from_yields_List}
 use Rattle.plain_text.specs.Lines.{is_break}
 use Rattle.plain_text.proofs.Places.{place_or_length}
-use Rattle.plain_text.proofs.lines.first_break.Goals as goal
+use Rattle.plain_text.proofs.breaks.first_break.Goals as goal
 
 pub returns-clause-value : goal.returns-clause-value
 returns-clause-value c =

@@ -1,6 +1,6 @@
 use Rattle.std.proofs.Common.{sym, ◌∙◌, ◌+◌, ap, length, rules}
 use Rattle.plain_text.proofs.FirstLine.{numbered-none_by, numbered-first}
-use Rattle.plain_text.proofs.lines.NumberedLinesIterator.next.Goals as goal
+use Rattle.plain_text.proofs.line_texts.NumberedLinesIterator.next.Goals as goal
 
 pub returns-then-is_empty-clause-steps : goal.returns-then-is_empty-clause-steps
 returns-then-is_empty-clause-steps c =
