@@ -1,6 +1,7 @@
 pub mod Rules
 pub mod Replies
 pub mod Setups
-pub mod Shown
-pub mod Tracing
-pub mod Quiet
+pub mod Views
+pub mod Steady
+pub mod Follows
+pub mod Traces

@@ -16,19 +16,19 @@ Fits (Versus θ n bound) Exceeds = Unit {0}
 Fits Over r = ⊥
 
 -- a question in full or up to a bound, as it is shown
-abbrev pub asking : Settings → ℕ → Option ℕ → Ask
-asking config places None = Full config places
-asking config places (Some bound) = Versus config places (record { 0 = bound })
+abbrev pub ask_of : Settings → ℕ → Option ℕ → Ask
+ask_of config places None = Full config places
+ask_of config places (Some bound) = Versus config places (record { 0 = bound })
 
 -- a question, or the end where there is none, as it is shown
 abbrev pub ask_for : Option Question → Ask
 ask_for None = Over
-ask_for (Some q) = asking q.config q.places q.bound
+ask_for (Some q) = ask_of q.config q.places q.bound
 
 -- this total cost, where it is at most the bound
-abbrev pub up_to : ℕ → Option ℕ → Reply
-up_to x None = Exact (record { 0 = x })
-up_to x (Some bound) = if nat_le x bound then Exact (record { 0 = x }) else Exceeds
+abbrev pub reply_up_to : ℕ → Option ℕ → Reply
+reply_up_to x None = Exact (record { 0 = x })
+reply_up_to x (Some bound) = if nat_le x bound then Exact (record { 0 = x }) else Exceeds
 
 -- the total cost that a question asks for
 abbrev pub cost_asked : Sums → Question → Option ℕ
@@ -36,7 +36,7 @@ cost_asked sums q = sums q.config q.places
 
 -- what these total costs reply to a question
 abbrev pub reply_to : Sums → Question → Reply
-reply_to sums q = up_to (or_nothing (cost_asked sums q)) q.bound
+reply_to sums q = reply_up_to (or_nothing (cost_asked sums q)) q.bound
 
 -- the replies to the first k asks of a run
 abbrev pub replies_to : Sums → Run → ℕ → List Reply
@@ -51,6 +51,6 @@ abbrev pub entries_before : Run → ℕ → List Incumbent
 entries_before run k = map (λ a. a.entry) (filter (λ a. nat_le a.asks_before k) run.entries)
 
 -- the number of asks with a reply: an abort leaves the last one without
-abbrev pub replied : End → ℕ → ℕ
-replied Finished asks = asks
-replied Aborted asks = asks - 1
+abbrev pub reply_count : End → ℕ → ℕ
+reply_count Finished asks = asks
+reply_count Aborted asks = asks - 1

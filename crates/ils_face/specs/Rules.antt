@@ -1,9 +1,11 @@
 -- The rules of a search as plain numbers and lists.
 use Rattle.std.specs.Prelude.{ℕ, ◌≤◌, ◌<◌, ◌^◌}
 use Rattle.objective.specs.Bounds.{Bounds, AreInRange}
+use Rattle.objective.specs.Limits
 use Rattle.param_space.specs.Space.{Lists}
 use Rattle.param_space.specs.Faults.{IsSpace}
 
+-- what a search goes by
 pub record Rules : Type 0 where
   pub space : Lists
   pub seed : ℕ
@@ -21,11 +23,11 @@ pub record AreRules (rules : Rules) : Type 0 where
   pub limits : AreInRange rules.limits.cutoff rules.limits.floor
   pub seed_in_range : rules.seed < 2 ^ 32
   pub some_run : 1 ≤ rules.max_runs
-  pub runs_in_range : rules.max_runs ≤ 10000
-  pub budget_in_range : rules.budget ≤ 100000
-  pub initial_in_range : rules.initial ≤ 1000
+  pub runs_in_range : rules.max_runs ≤ Limits.max_runs
+  pub budget_in_range : rules.budget ≤ Limits.max_comparisons
+  pub initial_in_range : rules.initial ≤ Limits.max_initial
   pub some_step : 1 ≤ rules.strength
-  pub strength_in_range : rules.strength ≤ 100
-  pub restart_in_range : rules.restart ≤ 10000
+  pub strength_in_range : rules.strength ≤ Limits.max_strength
+  pub restart_in_range : rules.restart ≤ Limits.max_restart
   pub some_worker : 1 ≤ rules.workers
-  pub workers_in_range : rules.workers ≤ 64
+  pub workers_in_range : rules.workers ≤ Limits.max_workers

@@ -1,5 +1,5 @@
 -- What the uncapped procedure knows by the rules of a search: the neighbours and the draws.
-use Rattle.std.specs.Prelude.{ℕ, ◌*◌, ◌≡◌, List, [], ◌∷◌, Option, Some, None, length, map, refl}
+use Rattle.std.specs.Prelude.{ℕ, ◌*◌, List, [], ◌∷◌, Option, Some, None, length, map}
 use Rattle.std.specs.List.{slice_index_or}
 use Rattle.param_space.specs.Space.{defaults}
 use Rattle.neighbourhood.specs.Neighbours.{neighbours_of}
@@ -13,18 +13,19 @@ abbrev pub stream_of : ℕ → ℕ
 stream_of event = 2 * event
 
 -- the configurations with these numbers of a list
-abbrev pub picked : List Settings → List ℕ → List Settings
-picked θs numbers = map (λ i. slice_index_or θs i []) numbers
+abbrev pub configs_at : List Settings → List ℕ → List Settings
+configs_at θs numbers = map (λ i. slice_index_or θs i []) numbers
 
 -- the configurations in the order of a stream
 abbrev pub in_order_of : ℕ → ℕ → List Settings → List Settings
-in_order_of seed stream θs = picked θs (order_of seed stream (length θs))
+in_order_of seed stream θs = configs_at θs (order_of seed stream (length θs))
 
 -- one of the configurations, where there is one
 abbrev pub one_from : ℕ → ℕ → List Settings → Option Settings
 one_from seed stream [] = None
 one_from seed stream (θ ∷ rest) = Some (slice_index_or (θ ∷ rest) (one_of seed stream (length (θ ∷ rest))) [])
 
+-- what the procedure knows by these rules
 unfoldable pub setup_of : Rules → Setup
 setup_of rules = record {
   start = defaults rules.space.params;
@@ -38,15 +39,3 @@ setup_of rules = record {
   random = λ event. random_config_of rules.seed (stream_of event) rules.space;
   coin = λ event. coin_of rules.seed (stream_of event) rules.restart;
 }
-
--- what does not need the draws
-pub record SetupOf (rules : Rules) (setup : Setup) : Type 0 where
-  pub start : setup.start ≡ defaults rules.space.params
-  pub max_runs : setup.max_runs ≡ rules.max_runs
-  pub budget : setup.budget ≡ rules.budget
-  pub initial : setup.initial ≡ rules.initial
-  pub strength : setup.strength ≡ rules.strength
-
-pub setup_of-numbers : (rules : Rules) → SetupOf rules (setup_of rules)
-unfolding setup_of
-setup_of-numbers rules = record { start = refl; max_runs = refl; budget = refl; initial = refl; strength = refl }

@@ -13,19 +13,20 @@ pub struct Rules {
     pub space: Space,
     /// The seed of all draws.
     pub seed: u32,
-    /// The pairs of a comparison, at most: 1 to 10,000.
+    /// The pairs of a comparison, at most: 1 to `MAX_RUNS`.
     pub max_runs: u32,
-    /// The comparisons of a tuning: 0 to 100,000.
+    /// The comparisons of a tuning: 0 to `MAX_COMPARISONS`.
     pub budget: u32,
-    /// The random configurations that the default is compared with at first: 0 to 1,000.
+    /// The random configurations that the default is compared with at first: 0 to
+    /// `MAX_INITIAL`.
     pub initial: u32,
-    /// The random steps of a perturbation: 1 to 100.
+    /// The random steps of a perturbation: 1 to `MAX_STRENGTH`.
     pub strength: u32,
-    /// How often the search restarts, in ten-thousandths: 0 to 10,000.
+    /// How often the search restarts, in ten-thousandths: 0 to `MAX_RESTART`.
     pub restart: u16,
     /// What bounds and prices a run.
     pub limits: Limits,
-    /// The seats that work on a tuning: 1 to 64.
+    /// The seats that work on a tuning: 1 to `MAX_WORKERS`.
     pub workers: u32,
 }
 

@@ -1,12 +1,15 @@
 //! What every search promises.
 ghost use Rattle.std.specs.Prelude.{◌≡◌, List, [], ◌∷◌, ◌++◌, length, IfOk, OnOk, OnErr};
 ghost use Rattle.objective.specs.Costs.{Table};
+ghost use Rattle.uncapped.specs.Totals.{quiet};
 ghost use Rattle.uncapped.specs.Uncapped.{Run};
 ghost use Rattle.ils_face.specs.Rules.{AreRules};
 ghost use Rattle.ils_face.specs.declared.rules.Rules.{Rules};
 ghost use Rattle.ils_face.specs.declared.asks.Reply.{Reply};
 ghost use Rattle.ils_face.specs.Replies.{Fits};
-ghost use Rattle.ils_face.specs.Shown.{View, AreFitting, IsSteady, Follows, sums_under};
+ghost use Rattle.ils_face.specs.Views.{View, AreFitting};
+ghost use Rattle.ils_face.specs.Steady.{IsSteady};
+ghost use Rattle.ils_face.specs.Follows.{Follows, GoesThrough, sums_under};
 
 use crate::asks::{Ask, Entry, Reply};
 use crate::rules::Rules;
@@ -81,4 +84,8 @@ pub trait Search: Sized + Drop {
 
     /// Given the replies of a table, it shows what the procedure does.
     ghost follows: { (rules : Rules) (T : Table) → AreRules rules → Follows (shown rules) (sums_under rules T) (plain rules T) };
+
+    /// Over a table in which each abort counts as unsolved the procedure finishes, and the
+    /// search goes through all its asks.
+    ghost finishes: { (rules : Rules) (T : Table) → AreRules rules → GoesThrough (shown rules) (sums_under rules (quiet T)) (plain rules (quiet T)) };
 }

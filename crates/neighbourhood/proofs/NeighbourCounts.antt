@@ -8,7 +8,7 @@ use Rattle.std.proofs.lemmas.List.FromFn.{length-range_with_len}
 use Rattle.param_space.specs.declared.lists.Param.{Param}
 use Rattle.param_space.specs.Space.{Lists, value_count}
 use Rattle.param_space.specs.Faults.{IsSpace}
-use Rattle.param_space.specs.Belonging.{few_values, few_params}
+use Rattle.param_space.proofs.SpaceSizes.{few_values, few_params}
 use Rattle.param_space.specs.Configurations.{is_active, is_allowed}
 use Rattle.neighbourhood.specs.Neighbours.{other_values, exchange_of, exchanges, active_params, neighbours_of}
 use Rattle.neighbourhood.proofs.Soundness.{no_param, range_below}

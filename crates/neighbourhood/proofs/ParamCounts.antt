@@ -2,7 +2,7 @@
 use Rattle.std.proofs.Common.{◌≡◌, ◌<◌, ◌≤◌, ◌∙◌, ℕ, List, None, length, get_or, ap, arith}
 use Rattle.param_space.specs.declared.lists.Param.{Param}
 use Rattle.param_space.specs.Faults.{params_fault}
-use Rattle.param_space.specs.Belonging.{few_values}
+use Rattle.param_space.proofs.SpaceSizes.{few_values}
 
 -- the values of the parameter that is read are at most 256
 pub few_read : (params read : List Param) (i : ℕ) (p : Param) (texts : List (List ℕ)) → params_fault params ≡ None → i < length params → read ≡ params → texts ≡ (get_or read i p).values → length texts ≤ 256

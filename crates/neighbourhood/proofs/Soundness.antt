@@ -8,8 +8,8 @@ use Rattle.param_space.specs.declared.lists.Param.{Param}
 use Rattle.param_space.specs.Space.{Lists, Belongs, value_count}
 use Rattle.param_space.specs.Faults.{IsSpace}
 use Rattle.param_space.specs.Configurations.{is_active, is_allowed, IsConfig}
-use Rattle.param_space.specs.Belonging.{Belongs-set}
-use Rattle.param_space.specs.Soundness.{settled_is_config}
+use Rattle.param_space.proofs.BelongsLemmas.{Belongs-set}
+use Rattle.param_space.proofs.Soundness.{settled_is_config}
 use Rattle.neighbourhood.specs.Neighbours.{other_values, exchange_of, exchanges, active_params, neighbours_of}
 
 -- what holds of each element of each part holds of each element of all

@@ -3,7 +3,7 @@ use Rattle.std.specs.Prelude.{ℕ, ◌==◌, not, List, length, map, slice_index
 use Rattle.std.specs.List.{filter, flat_map, range_with_len}
 use Rattle.param_space.specs.declared.lists.Param.{Param}
 use Rattle.param_space.specs.Space.{Lists, value_count}
-use Rattle.param_space.specs.Configurations.{is_active, settled, is_allowed}
+use Rattle.param_space.specs.Configurations.{is_active, settled_config, is_allowed}
 
 -- the numbers of a parameter's values but for the one that it has in the configuration
 abbrev pub other_values : List Param → List ℕ → ℕ → List ℕ
@@ -11,7 +11,7 @@ other_values params θ p = filter (λ v. not (v == slice_index θ p)) (range_wit
 
 -- the configuration with another value of one parameter, settled
 abbrev pub exchange_of : Lists → List ℕ → ℕ → ℕ → List ℕ
-exchange_of lists θ p v = settled lists (slice_set θ p v)
+exchange_of lists θ p v = settled_config lists (slice_set θ p v)
 
 -- the configurations with another value of this parameter, by value number
 abbrev pub exchanges : Lists → List ℕ → ℕ → List (List ℕ)

@@ -3,7 +3,7 @@ use Rattle.std.proofs.Common.{ℕ, zero, suc, ◌≡◌, ◌<◌, ◌≤◌, Non
 use Rattle.param_space.specs.declared.lists.Param.{Param}
 use Rattle.param_space.specs.Space.{Lists, defaults, Belongs}
 use Rattle.param_space.specs.Faults.{params_fault, IsSpace}
-use Rattle.param_space.specs.Configurations.{settled, is_allowed}
+use Rattle.param_space.specs.Configurations.{settled_config, is_allowed}
 use Rattle.rand_pcg.specs.Lcg.{Lcg}
 use Rattle.rand_pcg.specs.Pcg.{pcg32}
 use Rattle.seeded_order.specs.Draws.{generator_at, word_of, values_of, attempt_of, first_allowed_config}
@@ -52,10 +52,10 @@ drawn_belong seed stream k lists params config space e drawn =
     subst (Belongs lists.params) (sym same) (Belongs-values_of seed stream k lists.params all)
 
 -- and once they are settled they are the attempt
-pub settled_is_attempt : (seed stream a : ℕ) (lists : Lists) (params : List Param) (config after : List ℕ) → params ≡ lists.params → config ≡ values_of seed stream (a * length params) params → after ≡ settled lists config → after ≡ attempt_of seed stream lists a
+pub settled_is_attempt : (seed stream a : ℕ) (lists : Lists) (params : List Param) (config after : List ℕ) → params ≡ lists.params → config ≡ values_of seed stream (a * length params) params → after ≡ settled_config lists config → after ≡ attempt_of seed stream lists a
 unfolding attempt_of
 settled_is_attempt seed stream a lists params config after e drawn settling =
-    settling ∙ ap (settled lists) (drawn ∙ ap (λ ps. values_of seed stream (a * length ps) ps) e)
+    settling ∙ ap (settled_config lists) (drawn ∙ ap (λ ps. values_of seed stream (a * length ps) ps) e)
 
 -- the words of the next attempt follow those of this one
 pub next_attempt : (seed stream a n : ℕ) → generator_at seed stream (a * n + n) ≡ generator_at seed stream ((a + 1) * n)

@@ -4,7 +4,8 @@ use Rattle.std.specs.List.{All}
 use Rattle.param_space.specs.declared.lists.Param.{Param}
 use Rattle.param_space.specs.Space.{defaults}
 use Rattle.param_space.specs.Faults.{params_fault}
-use Rattle.param_space.specs.Belonging.{Belongs-defaults, value_in_range, few_values}
+use Rattle.param_space.proofs.BelongsLemmas.{Belongs-defaults, value_in_range}
+use Rattle.param_space.proofs.SpaceSizes.{few_values}
 
 -- a parameter with one to 256 values
 pub record HasValues (p : Param) : Type 0 where

@@ -6,7 +6,7 @@ use Rattle.param_space.specs.declared.lists.Param.{Param}
 use Rattle.param_space.specs.Space.{Lists, Belongs}
 use Rattle.param_space.specs.Faults.{IsSpace}
 use Rattle.param_space.specs.Configurations.{is_allowed, IsConfig}
-use Rattle.param_space.specs.Soundness.{settled_is_config, default_is_config}
+use Rattle.param_space.proofs.Soundness.{settled_is_config, default_is_config}
 use Rattle.seeded_order.specs.Draws.{word_of, values_of, attempt_of, first_allowed_config, random_config_of}
 use Rattle.seeded_order.specs.Limits.{max_attempts}
 use Rattle.seeded_order.proofs.ParamValues.{HasValues, All-HasValues}

@@ -5,7 +5,7 @@ use Rattle.rand_pcg.specs.Lcg.{Lcg, advance, started, increment_of}
 use Rattle.rand_pcg.specs.Pcg.{multiplier_64, pcg32}
 use Rattle.param_space.specs.declared.lists.Param.{Param}
 use Rattle.param_space.specs.Space.{Lists, defaults}
-use Rattle.param_space.specs.Configurations.{settled, is_allowed}
+use Rattle.param_space.specs.Configurations.{settled_config, is_allowed}
 use Rattle.seeded_order.specs.Limits.{max_attempts}
 
 -- the generator of a stream after so many words
@@ -53,7 +53,7 @@ values_of seed stream k (p ∷ later) = word_of seed stream k % length p.values 
 
 -- the configuration of an attempt, from 0: its words follow those of the attempts before it
 unfoldable pub attempt_of : ℕ → ℕ → Lists → ℕ → List ℕ
-attempt_of seed stream lists a = settled lists (values_of seed stream (a * length lists.params) lists.params)
+attempt_of seed stream lists a = settled_config lists (values_of seed stream (a * length lists.params) lists.params)
 
 -- the first allowed one of so many attempts from an attempt on; where none is allowed, the defaults
 unfoldable pub first_allowed_config : ℕ → ℕ → Lists → ℕ → ℕ → List ℕ

@@ -1,11 +1,11 @@
 -- Evaluations of configurations, and the comparisons of BasicILS and FocusedILS (Hutter et al., JAIR 36).
 use Rattle.std.specs.Prelude.{ℕ, zero, suc, ◌+◌, max, min, Bool, true, false, not, ◌&&◌, ◌||◌, ◌==◌, [], ◌∷◌, ◌++◌, Option, Some, None, nat_le, nat_lt, length, bytes_eq, if◌then◌else◌}
-use Rattle.uncapped.specs.Procedure.{Settings, Sums, PlainState, Procedure, ◌>>=◌, ◌>>◌, give, state, becomes, when, known}
+use Rattle.uncapped.specs.Procedure.{Settings, Sums, PlainState, Procedure, ◌>>=◌, ◌>>◌, give, state, becomes, when, cost_or_abort}
 use Rattle.uncapped.specs.Setup.{Setup}
 
 -- the count of a configuration becomes at least n
-abbrev pub counted : (Settings → ℕ) → Settings → ℕ → Settings → ℕ
-counted counts θ n φ = if bytes_eq φ θ then max (counts θ) n else counts φ
+abbrev pub counts_after : (Settings → ℕ) → Settings → ℕ → Settings → ℕ
+counts_after counts θ n φ = if bytes_eq φ θ then max (counts θ) n else counts φ
 
 -- the state after one more ask
 abbrev pub after_ask : Settings → ℕ → Option ℕ → PlainState → PlainState
@@ -24,8 +24,8 @@ after_entry θ n x s = record s {
 unfoldable pub measure : Sums → Settings → ℕ → Option ℕ → Procedure ℕ
 measure sums θ n bound = do
   becomes (after_ask θ n bound)
-  x ← known (sums θ n)
-  becomes (λ s. record s { counts = counted s.counts θ n })
+  x ← cost_or_abort (sums θ n)
+  becomes (λ s. record s { counts = counts_after s.counts θ n })
   give x
 
 -- the number is below one that is known

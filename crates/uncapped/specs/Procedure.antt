@@ -27,6 +27,7 @@ pub record Addition : Type 0 where
   pub asks_before : ℕ
   pub entry : Incumbent
 
+-- what the procedure has done so far
 pub record PlainState : Type 0 where
   pub counts : Settings → ℕ  -- the places of each configuration that count as run
   pub incumbent : Settings
@@ -36,6 +37,7 @@ pub record PlainState : Type 0 where
   pub asks : List Question  -- the asks made, oldest first
   pub entries : List Addition  -- oldest first
 
+-- how the procedure ends: its budget is used up, or a run aborts
 pub data End : Type 0 where
   Finished : End
   Aborted : End
@@ -45,9 +47,11 @@ pub data Step (A : Type 0) : Type 0 where
   Goes : PlainState → A → Step A
   Ends : PlainState → End → Step A
 
+-- a procedure takes the state that it finds
 abbrev pub Procedure : Type 0 → Type 0
 Procedure A = PlainState → Step A
 
+-- a step goes on by a procedure that takes its value, unless it has ended
 abbrev pub goes_on : {A B : Type 0} → Step A → (A → Procedure B) → Step B
 goes_on (Goes s a) f = f a s
 goes_on (Ends s e) f = Ends s e
@@ -62,6 +66,7 @@ infixl 10 ◌>>◌
 abbrev pub ◌>>◌ : {A B : Type 0} → Procedure A → Procedure B → Procedure B
 p >> q = λ s. goes_on (p s) (λ _. q)
 
+-- a value, with nothing done
 abbrev pub give : {A : Type 0} → A → Procedure A
 give a = λ s. Goes s a
 
@@ -69,20 +74,23 @@ give a = λ s. Goes s a
 abbrev pub state : Procedure PlainState
 state = λ s. Goes s s
 
+-- the state is changed
 abbrev pub becomes : (PlainState → PlainState) → Procedure (Unit {0})
 becomes f = λ s. Goes (f s) tt
 
+-- the end
 abbrev pub stop : {A : Type 0} → End → Procedure A
 stop e = λ s. Ends s e
 
+-- the procedure, where the test is met
 abbrev pub when : Bool → Procedure (Unit {0}) → Procedure (Unit {0})
 when true p = p
 when false p = give tt
 
 -- the number, or the end by an abort
-abbrev pub known : Option ℕ → Procedure ℕ
-known (Some x) = give x
-known None = stop Aborted
+abbrev pub cost_or_abort : Option ℕ → Procedure ℕ
+cost_or_abort (Some x) = give x
+cost_or_abort None = stop Aborted
 
 -- a draw by the number of its event
 abbrev pub draw : {A : Type 0} → (ℕ → A) → Procedure A

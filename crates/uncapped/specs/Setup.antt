@@ -2,6 +2,7 @@
 use Rattle.std.specs.Prelude.{ℕ, Bool, List, Option}
 use Rattle.uncapped.specs.Procedure.{Settings}
 
+-- the rules of a tuning, as the procedure sees them
 pub record Setup : Type 0 where
   pub start : Settings  -- the default configuration
   pub max_runs : ℕ  -- the places of a comparison, at most

@@ -17,12 +17,12 @@ total_cost limits T config zero = Some 0
 total_cost limits T config (suc n) = plus (total_cost limits T config n) (cost_of limits (T config (suc n)))
 
 -- an abort as unsolved
-abbrev pub quieted : Outcome → Outcome
-quieted (Solved t) = Solved t
-quieted Unsolved = Unsolved
-quieted (Crashed t) = Crashed t
-quieted (Abort t) = Unsolved
+abbrev pub quiet_outcome : Outcome → Outcome
+quiet_outcome (Solved t) = Solved t
+quiet_outcome Unsolved = Unsolved
+quiet_outcome (Crashed t) = Crashed t
+quiet_outcome (Abort t) = Unsolved
 
 -- the table in which each abort counts as unsolved
 abbrev pub quiet : Table → Table
-quiet T config place = quieted (T config place)
+quiet T config place = quiet_outcome (T config place)

@@ -9,6 +9,7 @@ use Rattle.uncapped.specs.Evaluation.{measure, after_entry, better_basic, better
 use Rattle.uncapped.specs.Searching.{search_after}
 use Rattle.uncapped.specs.Totals.{total_cost, quiet}
 
+-- how configurations are compared
 pub data Approach : Type 0 where
   Basic : Approach
   Focused : Approach
@@ -28,6 +29,7 @@ unfoldable pub procedure : Approach → Setup → Sums → Procedure (Unit {0})
 procedure Basic setup sums = search_after setup (better_basic setup sums) (opening_basic setup sums)
 procedure Focused setup sums = search_after setup (better_focused setup sums) (opening_focused setup)
 
+-- the state before anything is asked
 abbrev pub at_first : Setup → PlainState
 at_first setup = record {
   counts = λ _. 0;
@@ -46,6 +48,7 @@ pub record Run : Type 0 where
   pub entries : List Addition
   pub last : Incumbent
 
+-- the number, or 0 where there is none
 abbrev pub or_nothing : Option ℕ → ℕ
 or_nothing (Some x) = x
 or_nothing None = 0
@@ -59,9 +62,11 @@ last_of sums s = record {
   config = s.incumbent;
 }
 
+-- the run that ends so in a state
 abbrev pub run_of : Sums → PlainState → End → Run
 run_of sums s e = record { end = e; asks = s.asks; entries = s.entries; last = last_of sums s }
 
+-- the run that a step comes to
 abbrev pub run_after : {A : Type 0} → Sums → Step A → Run
 run_after sums (Goes s _) = run_of sums s Finished
 run_after sums (Ends s e) = run_of sums s e

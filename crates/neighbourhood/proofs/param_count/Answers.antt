@@ -1,5 +1,5 @@
 use Rattle.std.proofs.Common.{arith, length, ap}
-use Rattle.param_space.specs.Belonging.{few_params}
+use Rattle.param_space.proofs.SpaceSizes.{few_params}
 use Rattle.neighbourhood.proofs.param_count.Goals as goal
 
 pub overflow_cast-result : goal.overflow_cast-result

@@ -1,6 +1,6 @@
 use Rattle.std.proofs.Common.{arith}
 use Rattle.std.proofs.lemmas.Grind.{common_steps}
-use Rattle.param_space.specs.Belonging.{length-Belongs}
+use Rattle.param_space.proofs.BelongsLemmas.{length-Belongs}
 use Rattle.neighbourhood.proofs.Soundness.{Belongs-exchange}
 use Rattle.neighbourhood.proofs.push_exchange.Goals as goal
 

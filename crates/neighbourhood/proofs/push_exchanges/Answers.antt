@@ -1,6 +1,6 @@
 use Rattle.std.proofs.Common.{arith, ap, length}
 use Rattle.std.proofs.lemmas.Grind.{common_steps}
-use Rattle.param_space.specs.Belonging.{length-Belongs}
+use Rattle.param_space.proofs.BelongsLemmas.{length-Belongs}
 use Rattle.neighbourhood.proofs.Exchanges.{by_value-other, by_value-present}
 use Rattle.neighbourhood.proofs.push_exchanges.Goals as goal
 use Rattle.neighbourhood.proofs.push_exchanges.Goals.{then-value-present+in_ok-push_exchange, else-value-present}

@@ -1,17 +1,12 @@
--- Small tables and setups for worked rows, and the default settings on two places that cost 3 and 4 seconds,
--- computed.
-use Rattle.std.specs.Prelude.{ℕ, zero, suc, ◌*◌, ◌≡◌, false, List, [], ◌∷◌, Option, Some, None, refl}
+-- Small tables and setups for worked rows.
+use Rattle.std.specs.Prelude.{ℕ, zero, suc, ◌*◌, false, List, [], ◌∷◌, Option, Some, None}
 use Rattle.objective.specs.Bounds.{Bounds}
 use Rattle.objective.specs.Costs.{Table}
 use Rattle.objective.specs.declared.Factor.TheVariants.{One, Ten}
 use Rattle.objective.specs.declared.Outcome.{Outcome}
 use Rattle.objective.specs.declared.Outcome.TheVariants.{Solved, Abort}
-use Rattle.uncapped.specs.Totals.{total_cost}
-use Rattle.uncapped.specs.Procedure.{Settings, Question, Incumbent, Addition, Finished, Aborted}
+use Rattle.uncapped.specs.Procedure.{Settings, Question, Incumbent, Addition}
 use Rattle.uncapped.specs.Setup.{Setup}
-use Rattle.uncapped.specs.Evaluation.{measure}
-use Rattle.uncapped.specs.Searching.{search_after, try_random, improve, improve_among, search_on, perturb, compare}
-use Rattle.uncapped.specs.Uncapped.{uncapped, Basic, procedure, opening_basic}
 
 -- so many seconds, in microseconds
 abbrev pub seconds : ℕ → ℕ
@@ -25,12 +20,12 @@ abbrev pub ten_seconds_tenfold : Bounds
 ten_seconds_tenfold = record { cutoff = 10000000; factor = Ten; floor = 1 }
 
 -- a run that is solved after so many seconds
-abbrev pub solved : ℕ → Outcome
-solved n = Solved (record { 0 = seconds n })
+abbrev pub solution_after : ℕ → Outcome
+solution_after n = Solved (record { 0 = seconds n })
 
 -- a run that asks for the end of the tuning after so many seconds
-abbrev pub aborted : ℕ → Outcome
-aborted n = Abort (record { 0 = seconds n })
+abbrev pub abort_after : ℕ → Outcome
+abort_after n = Abort (record { 0 = seconds n })
 
 -- this outcome at each place
 abbrev pub always : Outcome → ℕ → Outcome
@@ -94,36 +89,9 @@ abbrev pub up_to : ℕ → Settings → ℕ → Question
 up_to most θ n = record { config = θ; places = n; bound = Some (seconds most) }
 
 -- an incumbent that is found in a comparison and costs so many seconds over so many runs
-abbrev pub found : ℕ → ℕ → ℕ → Settings → Incumbent
-found compared runs sum θ = record { compared = compared; runs = runs; sum = seconds sum; config = θ }
+abbrev pub incumbent_of : ℕ → ℕ → ℕ → Settings → Incumbent
+incumbent_of compared runs sum θ = record { compared = compared; runs = runs; sum = seconds sum; config = θ }
 
 -- an incumbent that is added after so many asks
-abbrev pub added : ℕ → Incumbent → Addition
-added asks incumbent = record { asks_before = asks; entry = incumbent }
-
--- the default costs 3 and 4 seconds
-abbrev pub three_and_four : Table
-three_and_four θ = then_always (solved 3) (solved 4)
-
--- one entry after one ask, and the same last line
-pub default_settings : uncapped Basic (one_value 2 0) (total_cost ten_seconds three_and_four) ≡ record {
-  end = Finished;
-  asks = record { config = 0 ∷ []; places = 2; bound = None } ∷ [];
-  entries = record { asks_before = 1; entry = record { compared = 0; runs = 2; sum = 7000000; config = 0 ∷ [] } } ∷ [];
-  last = record { compared = 0; runs = 2; sum = 7000000; config = 0 ∷ [] };
-}
-unfolding uncapped procedure measure opening_basic search_after try_random improve improve_among search_on perturb compare
-default_settings = refl
-
-abbrev pub aborting : Table
-aborting θ = always (aborted 1)
-
--- an abort ends the procedure before its first entry
-pub default_aborts : (uncapped Basic (one_value 2 0) (total_cost ten_seconds aborting)).end ≡ Aborted
-unfolding uncapped procedure measure opening_basic search_after
-default_aborts = refl
-
--- and so it finds nothing
-pub default_aborts_bare : (uncapped Basic (one_value 2 0) (total_cost ten_seconds aborting)).entries ≡ []
-unfolding uncapped procedure measure opening_basic search_after
-default_aborts_bare = refl
+abbrev pub addition_after : ℕ → Incumbent → Addition
+addition_after asks incumbent = record { asks_before = asks; entry = incumbent }

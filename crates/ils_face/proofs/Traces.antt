@@ -6,44 +6,25 @@ use Rattle.std.proofs.lemmas.List.{take_more, map-append, length_push}
 use Rattle.std.proofs.lemmas.Option.{slice_get_within, slice_get_cases, get_or_from_slice_get}
 use Rattle.uncapped.specs.Procedure.{Settings, Sums, Question, End, Finished, Aborted}
 use Rattle.uncapped.specs.Uncapped.{Run}
-use Rattle.ils_face.specs.declared.asks.Ask.{Ask}
-use Rattle.ils_face.specs.declared.asks.Ask.TheVariants.{Full, Versus, End as Over}
+use Rattle.ils_face.specs.declared.asks.Ask.TheVariants.{End as Over}
 use Rattle.ils_face.specs.declared.asks.Reply.{Reply}
-use Rattle.ils_face.specs.Replies.{asking, ask_for, cost_asked, reply_to, replies_to, replied}
-use Rattle.ils_face.specs.Shown.{View, Follows, ShowsEnd, answered}
-
--- the question that an ask is of; there is none at the end
-abbrev pub question_of : Ask → Option Question
-question_of (Full θ n) = Some (record { config = θ; places = n; bound = None })
-question_of (Versus θ n bound) = Some (record { config = θ; places = n; bound = Some bound.0 })
-question_of Over = None
-
--- the total cost that the question is of is known, and this is the reply that it gives
-pub record IsReplyBy (sums : Sums) (r : Reply) (q : Question) : Type 0 where
-  pub known : IsSome (cost_asked sums q)
-  pub same : r ≡ reply_to sums q
-
--- the total cost that the question is of isn't known
-pub record IsUnknown (sums : Sums) (q : Question) : Type 0 where
-  pub unknown : cost_asked sums q ≡ None
+use Rattle.ils_face.specs.Replies.{ask_of, ask_for, cost_asked, reply_to, replies_to, reply_count}
+use Rattle.ils_face.specs.Views.{View}
+use Rattle.ils_face.specs.Follows.{Follows, ShowsEnd, answer_count}
+use Rattle.ils_face.specs.Traces.{question_of, IsReplyBy, IsUnknown, IsFinal}
 
 -- the replies so far are those of these total costs to the first asks of the run
 pub record IsTraced (sums : Sums) (run : Run) (replies : List Reply) : Type 0 where
-  pub within : length replies ≤ answered run
+  pub within : length replies ≤ answer_count run
   pub same : replies ≡ replies_to sums run (length replies)
 
--- the procedure finished, and its entries and its last line are shown
-pub record IsFinal (view : View) (run : Run) : Type 0 where
-  pub finished : run.end ≡ Finished
-  pub shows : ShowsEnd view run
-
-question_of-asking : (θ : Settings) (n : ℕ) (bound : Option ℕ) → question_of (asking θ n bound) ≡ Some (record { config = θ; places = n; bound = bound })
-question_of-asking θ n None = refl
-question_of-asking θ n (Some bound) = refl
+question_of-ask_of : (θ : Settings) (n : ℕ) (bound : Option ℕ) → question_of (ask_of θ n bound) ≡ Some (record { config = θ; places = n; bound = bound })
+question_of-ask_of θ n None = refl
+question_of-ask_of θ n (Some bound) = refl
 
 question_of-ask_for : (o : Option Question) → question_of (ask_for o) ≡ o
 question_of-ask_for None = refl
-question_of-ask_for (Some q) = question_of-asking q.config q.places q.bound
+question_of-ask_for (Some q) = question_of-ask_of q.config q.places q.bound
 
 -- the present ask is the run's next one
 pub asked_next : (shown : List Reply → View) (sums : Sums) (run : Run) (replies : List Reply) → Follows shown sums run → IsTraced sums run replies
@@ -54,15 +35,15 @@ asked_next shown sums run replies h t =
 
 -- an ask whose total cost is known has a reply
 has_reply : (shown : List Reply → View) (sums : Sums) (run : Run) (k : ℕ) (q : Question) (e : End) → run.end ≡ e → Follows shown sums run
-    → k ≤ answered run → slice_get run.asks k ≡ Some q → IsSome (cost_asked sums q) → k < answered run
+    → k ≤ answer_count run → slice_get run.asks k ≡ Some q → IsSome (cost_asked sums q) → k < answer_count run
 has_reply shown sums run k q Finished e h low at known =
-    let all : answered run ≡ length run.asks = ap (λ f. replied f (length run.asks)) e in
+    let all : answer_count run ≡ length run.asks = ap (λ f. reply_count f (length run.asks)) e in
     omega (arith, slice_get_within run.asks k q at)
 has_reply shown sums run k q Aborted e h low at known =
-    elim (cases_lt k (answered run)) as (λ _. k < answered run) [
+    elim (cases_lt k (answer_count run)) as (λ _. k < answer_count run) [
       | inl below ↦ below
       | inr reached ↦
-          (let same : k ≡ answered run = omega arith in
+          (let same : k ≡ answer_count run = omega arith in
           let P : Option Question → Type 0 = λ o. IfSome o (λ p. cost_asked sums p ≡ None) in
           let unknown : cost_asked sums q ≡ None = subst P (ap (slice_get run.asks) (sym same) ∙ at) (h.aborted e).unknown in
           let Q : Option ℕ → Type 0 = λ o. IsSome o in
@@ -72,10 +53,10 @@ has_reply shown sums run k q Aborted e h low at known =
 
 -- where a total cost isn't known the procedure is aborted
 is_aborted : (shown : List Reply → View) (sums : Sums) (run : Run) (k : ℕ) (q : Question) (e : End) → run.end ≡ e → Follows shown sums run
-    → k ≤ answered run → slice_get run.asks k ≡ Some q → cost_asked sums q ≡ None → run.end ≡ Aborted
+    → k ≤ answer_count run → slice_get run.asks k ≡ Some q → cost_asked sums q ≡ None → run.end ≡ Aborted
 is_aborted shown sums run k q Finished e h low at unknown =
-    let all : answered run ≡ length run.asks = ap (λ f. replied f (length run.asks)) e in
-    let inside : k < answered run = omega (arith, slice_get_within run.asks k q at) in
+    let all : answer_count run ≡ length run.asks = ap (λ f. reply_count f (length run.asks)) e in
+    let inside : k < answer_count run = omega (arith, slice_get_within run.asks k q at) in
     let P : Option Question → Type 0 = λ o. IfSome o (λ p. IsSome (cost_asked sums p)) in
     let known : IsSome (cost_asked sums q) = subst P at (h.known k inside) in
     let Q : Option ℕ → Type 0 = λ o. IsSome o in
@@ -85,9 +66,9 @@ is_aborted shown sums run k q Aborted e h low at unknown = e
 
 -- past the last ask the procedure has finished
 is_finished : (shown : List Reply → View) (sums : Sums) (run : Run) (k : ℕ) (e : End) → run.end ≡ e → Follows shown sums run
-    → k ≤ answered run → length run.asks ≤ k → (run.end ≡ Finished) × (k ≡ length run.asks)
+    → k ≤ answer_count run → length run.asks ≤ k → (run.end ≡ Finished) × (k ≡ length run.asks)
 is_finished shown sums run k Finished e h low high =
-    let all : answered run ≡ length run.asks = ap (λ f. replied f (length run.asks)) e in
+    let all : answer_count run ≡ length run.asks = ap (λ f. reply_count f (length run.asks)) e in
     (e, omega arith)
 is_finished shown sums run k Aborted e h low high =
     let stops = h.aborted e in absurd (omega (arith, stops.unanswered))
@@ -138,7 +119,7 @@ traced_final shown sums run replies h t over =
     record { finished = last.0; shows = subst P whole (h.finished last.0) }
 
 stops : (shown : List Reply → View) (sums : Sums) (run : Run) (k : ℕ) (o : Option Question) → Follows shown sums run
-    → k ≤ answered run → o ≡ slice_get run.asks k → IsSomeAnd o (IsUnknown sums) → run.end ≡ Aborted
+    → k ≤ answer_count run → o ≡ slice_get run.asks k → IsSomeAnd o (IsUnknown sums) → run.end ≡ Aborted
 stops shown sums run k None h low at by = absurd by
 stops shown sums run k (Some q) h low at by = is_aborted shown sums run k q run.end refl h low (sym at) by.unknown
 

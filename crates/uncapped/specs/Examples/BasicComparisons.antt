@@ -1,27 +1,24 @@
 -- BasicILS on two places, worked: one parameter with the values a and b, whose only neighbours are each other.
-use Rattle.std.specs.Prelude.{ℕ, ◌≡◌, ◌==◌, ◌&&◌, false, not, [], ◌∷◌, Some, bytes_eq, refl}
-use Rattle.std.proofs.Math.Bool.{and-false}
-use Rattle.std.proofs.Math.Nat.{le_refl}
-use Rattle.std.proofs.lemmas.Bool.{le-ltb}
+use Rattle.std.specs.Prelude.{◌≡◌, [], ◌∷◌, refl}
 use Rattle.objective.specs.Costs.{Table}
 use Rattle.objective.specs.declared.Outcome.TheVariants.{Unsolved}
 use Rattle.uncapped.specs.Totals.{total_cost, quiet}
-use Rattle.uncapped.specs.Procedure.{Settings, Sums, PlainState, Finished, Aborted}
-use Rattle.uncapped.specs.Evaluation.{measure, evaluate, better_basic, beats}
+use Rattle.uncapped.specs.Procedure.{Finished, Aborted}
+use Rattle.uncapped.specs.Evaluation.{measure, evaluate, better_basic}
 use Rattle.uncapped.specs.Searching.{search_after, try_random, improve, improve_among, search_on, perturb, compare}
 use Rattle.uncapped.specs.Uncapped.{uncapped, Basic, procedure, opening_basic}
-use Rattle.uncapped.specs.Example.{ten_seconds, ten_seconds_tenfold, solved, aborted, then_always, a, b, of_two, two_values, in_full, up_to, found, added}
+use Rattle.uncapped.specs.Examples.Tables.{ten_seconds, ten_seconds_tenfold, solution_after, abort_after, then_always, a, b, of_two, two_values, in_full, up_to, incumbent_of, addition_after}
 
 -- a costs 3 and 4 seconds, b 2 and 9
 abbrev pub other_is_worse : Table
-other_is_worse = of_two (then_always (solved 3) (solved 4)) (then_always (solved 2) (solved 9))
+other_is_worse = of_two (then_always (solution_after 3) (solution_after 4)) (then_always (solution_after 2) (solution_after 9))
 
 -- with no comparison, the default alone is evaluated
 pub no_comparison : uncapped Basic (two_values 2 0) (total_cost ten_seconds other_is_worse) ≡ record {
   end = Finished;
   asks = in_full a 2 ∷ [];
-  entries = added 1 (found 0 2 7 a) ∷ [];
-  last = found 0 2 7 a;
+  entries = addition_after 1 (incumbent_of 0 2 7 a) ∷ [];
+  last = incumbent_of 0 2 7 a;
 }
 unfolding uncapped procedure measure evaluate better_basic opening_basic search_after try_random improve improve_among search_on perturb compare
 no_comparison = refl
@@ -30,8 +27,8 @@ no_comparison = refl
 pub neighbour_loses : uncapped Basic (two_values 2 1) (total_cost ten_seconds other_is_worse) ≡ record {
   end = Finished;
   asks = in_full a 2 ∷ in_full a 2 ∷ up_to 7 b 2 ∷ [];
-  entries = added 1 (found 0 2 7 a) ∷ [];
-  last = found 1 2 7 a;
+  entries = addition_after 1 (incumbent_of 0 2 7 a) ∷ [];
+  last = incumbent_of 1 2 7 a;
 }
 unfolding uncapped procedure measure evaluate better_basic opening_basic search_after try_random improve improve_among search_on perturb compare
 neighbour_loses = refl
@@ -40,22 +37,22 @@ neighbour_loses = refl
 pub way_back_wins : uncapped Basic (two_values 2 2) (total_cost ten_seconds other_is_worse) ≡ record {
   end = Finished;
   asks = in_full a 2 ∷ in_full a 2 ∷ up_to 7 b 2 ∷ in_full b 2 ∷ up_to 11 a 2 ∷ [];
-  entries = added 1 (found 0 2 7 a) ∷ [];
-  last = found 2 2 7 a;
+  entries = addition_after 1 (incumbent_of 0 2 7 a) ∷ [];
+  last = incumbent_of 2 2 7 a;
 }
 unfolding uncapped procedure measure evaluate better_basic opening_basic search_after try_random improve improve_among search_on perturb compare
 way_back_wins = refl
 
 -- a costs 3 and 4 seconds, b 2 and 5
 abbrev pub other_ties : Table
-other_ties = of_two (then_always (solved 3) (solved 4)) (then_always (solved 2) (solved 5))
+other_ties = of_two (then_always (solution_after 3) (solution_after 4)) (then_always (solution_after 2) (solution_after 5))
 
 -- the search moves to b on a tie, and back to a on another, but neither is a new incumbent
 pub ties_move : uncapped Basic (two_values 2 2) (total_cost ten_seconds other_ties) ≡ record {
   end = Finished;
   asks = in_full a 2 ∷ in_full a 2 ∷ up_to 7 b 2 ∷ in_full b 2 ∷ up_to 7 a 2 ∷ [];
-  entries = added 1 (found 0 2 7 a) ∷ [];
-  last = found 2 2 7 a;
+  entries = addition_after 1 (incumbent_of 0 2 7 a) ∷ [];
+  last = incumbent_of 2 2 7 a;
 }
 unfolding uncapped procedure measure evaluate better_basic opening_basic search_after try_random improve improve_among search_on perturb compare
 ties_move = refl
@@ -64,64 +61,64 @@ ties_move = refl
 pub ties_alone_move : uncapped Basic (record (two_values 2 2) { strength = 0 }) (total_cost ten_seconds other_ties) ≡ record {
   end = Finished;
   asks = in_full a 2 ∷ in_full a 2 ∷ up_to 7 b 2 ∷ in_full b 2 ∷ up_to 7 a 2 ∷ [];
-  entries = added 1 (found 0 2 7 a) ∷ [];
-  last = found 2 2 7 a;
+  entries = addition_after 1 (incumbent_of 0 2 7 a) ∷ [];
+  last = incumbent_of 2 2 7 a;
 }
 unfolding uncapped procedure measure evaluate better_basic opening_basic search_after try_random improve improve_among search_on perturb compare
 ties_alone_move = refl
 
 -- a costs 3 and 4 seconds, b 8 and 1
 abbrev pub other_begins_badly : Table
-other_begins_badly = of_two (then_always (solved 3) (solved 4)) (then_always (solved 8) (solved 1))
+other_begins_badly = of_two (then_always (solution_after 3) (solution_after 4)) (then_always (solution_after 8) (solution_after 1))
 
 -- b loses at its first place already
 pub first_place_loses : uncapped Basic (two_values 2 1) (total_cost ten_seconds other_begins_badly) ≡ record {
   end = Finished;
   asks = in_full a 2 ∷ in_full a 2 ∷ up_to 7 b 2 ∷ [];
-  entries = added 1 (found 0 2 7 a) ∷ [];
-  last = found 1 2 7 a;
+  entries = addition_after 1 (incumbent_of 0 2 7 a) ∷ [];
+  last = incumbent_of 1 2 7 a;
 }
 unfolding uncapped procedure measure evaluate better_basic opening_basic search_after try_random improve improve_among search_on perturb compare
 first_place_loses = refl
 
 -- no run takes any time
 abbrev pub all_at_once : Table
-all_at_once = of_two (then_always (solved 0) (solved 0)) (then_always (solved 0) (solved 0))
+all_at_once = of_two (then_always (solution_after 0) (solution_after 0)) (then_always (solution_after 0) (solution_after 0))
 
 -- b is asked for up to a bound of nothing
 pub nothing_ties : uncapped Basic (two_values 2 1) (total_cost ten_seconds all_at_once) ≡ record {
   end = Finished;
   asks = in_full a 2 ∷ in_full a 2 ∷ up_to 0 b 2 ∷ [];
-  entries = added 1 (found 0 2 0 a) ∷ [];
-  last = found 1 2 0 a;
+  entries = addition_after 1 (incumbent_of 0 2 0 a) ∷ [];
+  last = incumbent_of 1 2 0 a;
 }
 unfolding uncapped procedure measure evaluate better_basic opening_basic search_after try_random improve improve_among search_on perturb compare
 nothing_ties = refl
 
 -- a is unsolved and then costs 1 second, b costs 9 and is then unsolved
 abbrev pub one_unsolved_each : Table
-one_unsolved_each = of_two (then_always Unsolved (solved 1)) (then_always (solved 9) Unsolved)
+one_unsolved_each = of_two (then_always Unsolved (solution_after 1)) (then_always (solution_after 9) Unsolved)
 
 -- with unsolved runs at 100 seconds, 109 seconds lose against 101
 pub penalties_count : uncapped Basic (two_values 2 1) (total_cost ten_seconds_tenfold one_unsolved_each) ≡ record {
   end = Finished;
   asks = in_full a 2 ∷ in_full a 2 ∷ up_to 101 b 2 ∷ [];
-  entries = added 1 (found 0 2 101 a) ∷ [];
-  last = found 1 2 101 a;
+  entries = addition_after 1 (incumbent_of 0 2 101 a) ∷ [];
+  last = incumbent_of 1 2 101 a;
 }
 unfolding uncapped procedure measure evaluate better_basic opening_basic search_after try_random improve improve_among search_on perturb compare
 penalties_count = refl
 
 -- a costs 3 and 4 seconds, b 2 and 4
 abbrev pub other_is_better : Table
-other_is_better = of_two (then_always (solved 3) (solved 4)) (then_always (solved 2) (solved 4))
+other_is_better = of_two (then_always (solution_after 3) (solution_after 4)) (then_always (solution_after 2) (solution_after 4))
 
 -- b is the next incumbent, and a loses against it
 pub neighbour_wins : uncapped Basic (two_values 2 2) (total_cost ten_seconds other_is_better) ≡ record {
   end = Finished;
   asks = in_full a 2 ∷ in_full a 2 ∷ up_to 7 b 2 ∷ in_full b 2 ∷ up_to 6 a 2 ∷ [];
-  entries = added 1 (found 0 2 7 a) ∷ added 3 (found 1 2 6 b) ∷ [];
-  last = found 2 2 6 b;
+  entries = addition_after 1 (incumbent_of 0 2 7 a) ∷ addition_after 3 (incumbent_of 1 2 6 b) ∷ [];
+  last = incumbent_of 2 2 6 b;
 }
 unfolding uncapped procedure measure evaluate better_basic opening_basic search_after try_random improve improve_among search_on perturb compare
 neighbour_wins = refl
@@ -130,15 +127,15 @@ neighbour_wins = refl
 pub steps_begin_at_the_best : uncapped Basic (two_values 2 3) (total_cost ten_seconds other_is_better) ≡ record {
   end = Finished;
   asks = in_full a 2 ∷ in_full a 2 ∷ up_to 7 b 2 ∷ in_full b 2 ∷ up_to 6 a 2 ∷ in_full a 2 ∷ up_to 7 b 2 ∷ [];
-  entries = added 1 (found 0 2 7 a) ∷ added 3 (found 1 2 6 b) ∷ [];
-  last = found 3 2 6 b;
+  entries = addition_after 1 (incumbent_of 0 2 7 a) ∷ addition_after 3 (incumbent_of 1 2 6 b) ∷ [];
+  last = incumbent_of 3 2 6 b;
 }
 unfolding uncapped procedure measure evaluate better_basic opening_basic search_after try_random improve improve_among search_on perturb compare
 steps_begin_at_the_best = refl
 
 -- a costs 3 and 4 seconds, b aborts at place 1
 abbrev pub other_aborts : Table
-other_aborts = of_two (then_always (solved 3) (solved 4)) (then_always (aborted 1) (solved 1))
+other_aborts = of_two (then_always (solution_after 3) (solution_after 4)) (then_always (abort_after 1) (solution_after 1))
 
 -- the tuning ends at b
 pub abort_ends : (uncapped Basic (two_values 2 1) (total_cost ten_seconds other_aborts)).end ≡ Aborted
@@ -151,7 +148,7 @@ unfolding uncapped procedure measure evaluate better_basic opening_basic search_
 abort_is_asked_for = refl
 
 -- and with the entry of the default alone
-pub abort_adds_nothing : (uncapped Basic (two_values 2 1) (total_cost ten_seconds other_aborts)).entries ≡ added 1 (found 0 2 7 a) ∷ []
+pub abort_adds_nothing : (uncapped Basic (two_values 2 1) (total_cost ten_seconds other_aborts)).entries ≡ addition_after 1 (incumbent_of 0 2 7 a) ∷ []
 unfolding uncapped procedure measure evaluate better_basic opening_basic search_after try_random improve improve_among search_on perturb compare
 abort_adds_nothing = refl
 
@@ -159,12 +156,8 @@ abort_adds_nothing = refl
 pub quiet_abort_loses : uncapped Basic (two_values 2 1) (total_cost ten_seconds (quiet other_aborts)) ≡ record {
   end = Finished;
   asks = in_full a 2 ∷ in_full a 2 ∷ up_to 7 b 2 ∷ [];
-  entries = added 1 (found 0 2 7 a) ∷ [];
-  last = found 1 2 7 a;
+  entries = addition_after 1 (incumbent_of 0 2 7 a) ∷ [];
+  last = incumbent_of 1 2 7 a;
 }
 unfolding uncapped procedure measure evaluate better_basic opening_basic search_after try_random improve improve_among search_on perturb compare
 quiet_abort_loses = refl
-
--- a tie never replaces the incumbent
-pub tie-is-no-win : (sums : Sums) (s : PlainState) (θ : Settings) (n x : ℕ) → sums s.incumbent n ≡ Some x → beats sums s θ n x ≡ false
-tie-is-no-win sums s θ n x e = rw (e, le-ltb x x (le_refl x), and-false (not (bytes_eq θ s.incumbent) && (n == s.counts s.incumbent))) refl

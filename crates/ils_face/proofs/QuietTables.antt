@@ -8,11 +8,12 @@ use Rattle.objective.specs.Costs.{Table, cost_of, cost_within}
 use Rattle.objective.specs.declared.Outcome.{Outcome}
 use Rattle.objective.specs.declared.Outcome.TheVariants.{Solved, Unsolved, Crashed, Abort}
 use Rattle.uncapped.specs.Procedure.{Settings, Sums, Question, End, Finished, Aborted}
-use Rattle.uncapped.specs.Totals.{plus, total_cost, quieted, quiet}
+use Rattle.uncapped.specs.Totals.{plus, total_cost, quiet_outcome, quiet}
 use Rattle.uncapped.specs.Uncapped.{Run}
 use Rattle.ils_face.specs.declared.asks.Reply.{Reply}
-use Rattle.ils_face.specs.Replies.{ask_for, ask_at, cost_asked, replies_to, reply_to, replied}
-use Rattle.ils_face.specs.Shown.{View, Follows, ShowsEnd, StopsShort, answered}
+use Rattle.ils_face.specs.Replies.{ask_for, ask_at, cost_asked, replies_to, reply_to, reply_count}
+use Rattle.ils_face.specs.Views.{View}
+use Rattle.ils_face.specs.Follows.{Follows, StopsShort, answer_count, GoesThrough}
 
 some_plus : (a b : Option ℕ) → IsSome a → IsSome b → IsSome (plus a b)
 some_plus (Some x) (Some y) h k = refl
@@ -23,7 +24,7 @@ either_some : (limits : Bounds) (b : Bool) (o u : Outcome) → IsSome (cost_with
 either_some limits true o u h k = h
 either_some limits false o u h k = k
 
-quiet_cost : (limits : Bounds) (o : Outcome) → IsSome (cost_of limits (quieted o))
+quiet_cost : (limits : Bounds) (o : Outcome) → IsSome (cost_of limits (quiet_outcome o))
 quiet_cost limits (Solved t) = either_some limits (nat_le t.0 limits.cutoff) (Solved t) Unsolved refl refl
 quiet_cost limits Unsolved = refl
 quiet_cost limits (Crashed t) = either_some limits (nat_le t.0 limits.cutoff) (Crashed t) Unsolved refl refl
@@ -32,7 +33,7 @@ quiet_cost limits (Abort t) = refl
 -- each total cost is known
 pub all_quiet : (limits : Bounds) (T : Table) (θ : Settings) (n : ℕ) → IsSome (total_cost limits (quiet T) θ n)
 all_quiet limits T θ zero = refl
-all_quiet limits T θ (suc n) = some_plus (total_cost limits (quiet T) θ n) (cost_of limits (quieted (T θ (suc n)))) (all_quiet limits T θ n) (quiet_cost limits (T θ (suc n)))
+all_quiet limits T θ (suc n) = some_plus (total_cost limits (quiet T) θ n) (cost_of limits (quiet_outcome (T θ (suc n)))) (all_quiet limits T θ n) (quiet_cost limits (T θ (suc n)))
 
 -- a known cost isn't none
 not_none : (o : Option ℕ) → IsSome o → o ≡ None → ⊥
@@ -56,12 +57,12 @@ known_end : (shown : List Reply → View) (sums : Sums) (run : Run) → Follows 
 known_end shown sums run h all Finished e = e
 known_end shown sums run h all Aborted e =
     let stops : StopsShort sums run = h.aborted e in
-    absurd (no_unknown sums run.asks (answered run) all stops.unanswered stops.unknown)
+    absurd (no_unknown sums run.asks (answer_count run) all stops.unanswered stops.unknown)
 
 -- a procedure that finished: after k replies ask k, or the end where there is none
 ask_of_all : (shown : List Reply → View) (sums : Sums) (run : Run) → Follows shown sums run → run.end ≡ Finished → (k : ℕ) → (shown (replies_to sums run k)).ask ≡ ask_at run k
 ask_of_all shown sums run h e k =
-    let all : answered run ≡ length run.asks = ap (λ f. replied f (length run.asks)) e in
+    let all : answer_count run ≡ length run.asks = ap (λ f. reply_count f (length run.asks)) e in
     elim (cases_lt (length run.asks) k) as (λ _. (shown (replies_to sums run k)).ask ≡ ask_at run k) [
       | inr inside ↦ h.asks k (omega (arith, all, inside))
       | inl past ↦
@@ -70,12 +71,6 @@ ask_of_all shown sums run h e k =
           ∙ h.asks (length run.asks) (omega (arith, all))
           ∙ ap ask_for (slice_get_past run.asks (length run.asks) (omega arith) ∙ sym (slice_get_past run.asks k (omega (arith, past))))
     ]
-
--- the replies of a table, its aborts as unsolved, lead through all asks of the procedure to its end
-pub record GoesThrough (shown : List Reply → View) (sums : Sums) (run : Run) : Type 0 where
-  pub finished : run.end ≡ Finished
-  pub asks : (k : ℕ) → (shown (replies_to sums run k)).ask ≡ ask_at run k
-  pub end : ShowsEnd (shown (replies_to sums run (length run.asks))) run
 
 -- so does each search that follows it
 pub quiet-through : (shown : List Reply → View) (limits : Bounds) (T : Table) (run : Run) → Follows shown (total_cost limits (quiet T)) run → GoesThrough shown (total_cost limits (quiet T)) run

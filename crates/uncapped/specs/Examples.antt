@@ -1,0 +1,6 @@
+-- The procedure, worked on small tables.
+pub mod Tables
+pub mod DefaultSettings
+pub mod BasicComparisons
+pub mod FocusedComparisons
+pub mod ListsAndDraws
