@@ -13,9 +13,9 @@ pub enum Fault {
 
 impl From<Memory> for Fault {
     ghost use Rattle.std.specs.Prelude.{◌≡◌};
-    ghost use Rattle.outside.specs.declared.faults.Fault.TheVariants as fault;
+    ghost use Rattle.outside.specs.declared.faults.Fault.TheVariants;
 
-    ghost from_gives = { λ _ e. e ≡ fault.Memory };
+    ghost from_gives = { λ _ e. e ≡ TheVariants.Memory };
 
     fn from(_e: Memory) -> Fault {
         Fault::Memory
@@ -24,9 +24,9 @@ impl From<Memory> for Fault {
 
 impl From<AllocError> for Fault {
     ghost use Rattle.std.specs.Prelude.{◌≡◌};
-    ghost use Rattle.outside.specs.declared.faults.Fault.TheVariants as fault;
+    ghost use Rattle.outside.specs.declared.faults.Fault.TheVariants;
 
-    ghost from_gives = { λ _ e. e ≡ fault.Memory };
+    ghost from_gives = { λ _ e. e ≡ TheVariants.Memory };
 
     fn from(_e: AllocError) -> Fault {
         Fault::Memory

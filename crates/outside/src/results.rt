@@ -7,7 +7,7 @@ ghost use Rattle.objective.specs.Costs.{IsWithin};
 ghost use Rattle.outside.specs.Results;
 
 use objective::{Answer, Micros};
-use plain_text::read_count;
+use plain_text::{all_digits, read_count};
 
 /// Where the first `separator` stands.
 fn first_place(bytes: &[u8], separator: u8) -> Option<usize>
@@ -27,18 +27,11 @@ fn parted(bytes: &[u8], separator: u8) -> (&[u8], &[u8])
     }
 }
 
-/// Whether all the bytes are digits.
-fn is_digits(bytes: &[u8]) -> bool
-    ensures { result ≡ list_all is_ascii_digit bytes.now }
-{
-    bytes.iter().all(|b| b.is_ascii_digit())
-}
-
 /// Whether these are one or more digits, and six digits.
 fn is_time(whole: &[u8], fraction: &[u8]) -> bool
     ensures { result ≡ Results.is_time whole.now fraction.now }
 {
-    is_digits(whole) && !whole.is_empty() && is_digits(fraction) && fraction.len() == 6
+    all_digits(whole) && !whole.is_empty() && all_digits(fraction) && fraction.len() == 6
 }
 
 /// The microseconds of whole seconds and six digits. None exactly where they exceed the

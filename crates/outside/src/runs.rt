@@ -6,7 +6,7 @@ ghost use Rattle.plain_text.specs.Decimals.{seconds};
 ghost use Rattle.outside.specs.Runs;
 
 use objective::{Memory, Micros};
-use plain_text::{Items, Text, pieces, seconds_text};
+use plain_text::{Copied, Items, Text, pieces, seconds_text};
 use std::alloc::Global;
 
 /// The program that is tuned.
@@ -61,44 +61,39 @@ impl Setting {
     }
 }
 
+impl Copied for Setting {
+    fn copied(&self) -> Result<Setting, Memory> {
+        self.copy()
+    }
+}
+
 impl Key {
     /// The same key.
-    pub fn copy(&self, alloc: Global) -> Result<Key, Memory>
+    pub fn copy(&self) -> Result<Key, Memory>
         ensures { IfOk result (λ k. k ≡ self.now) }
     {
         let (instance, specifics) = (self.instance.copy()?, self.specifics.copy()?);
-        let settings = copy_settings(alloc, self.settings.as_slice())?;
+        let settings = self.settings.copy()?;
         Ok(Key {
             instance,
             specifics,
             seed: self.seed,
-            settings: Items::new(settings),
+            settings,
         })
     }
 }
 
 impl Run {
     /// The same run.
-    pub fn copy(&self, alloc: Global) -> Result<Run, Memory>
+    pub fn copy(&self) -> Result<Run, Memory>
         ensures { IfOk result (λ r. r ≡ self.now) }
     {
-        let key = self.key.copy(alloc)?;
+        let key = self.key.copy()?;
         Ok(Run {
             key,
             cutoff: self.cutoff,
         })
     }
-}
-
-/// The same settings.
-fn copy_settings(alloc: Global, settings: &[Setting]) -> Result<Vec<Setting>, Memory>
-    ensures { IfOk result (λ v. v.items ≡ settings.now) }
-{
-    let mut copies = Vec::new(alloc);
-    for setting in settings {
-        copies.push(setting.copy()?)?;
-    }
-    Ok(copies)
 }
 
 /// The same texts.
@@ -175,16 +170,32 @@ fn push_settings(alloc: Global, words: &mut Vec<Text>, settings: &[Setting]) -> 
     Ok(())
 }
 
+/// Appends the instance, its specifics and the cutoff in seconds.
+fn push_instance(alloc: Global, words: &mut Vec<Text>, run: &Run) -> Result<(), Memory>
+    ensures { OnOk result (words.new.items ≡ words.old.items ++ run.now.key.instance ∷ run.now.key.specifics ∷ seconds run.now.cutoff.0 ∷ []) }
+{
+    words.push(run.key.instance.copy()?)?;
+    words.push(run.key.specifics.copy()?)?;
+    words.push(seconds_text(alloc, run.cutoff.0)?)?;
+    Ok(())
+}
+
+/// Appends the cutoff length and the seed.
+fn push_numbers(alloc: Global, words: &mut Vec<Text>, length: u32, seed: u32) -> Result<(), Memory>
+    ensures { OnOk result (words.new.items ≡ words.old.items ++ decimal length ∷ decimal seed ∷ []) }
+{
+    words.push(number_text(alloc, length)?)?;
+    words.push(number_text(alloc, seed)?)?;
+    Ok(())
+}
+
 /// The words that start a run of the program.
 pub fn words_of(alloc: Global, program: &Program, run: &Run) -> Result<Vec<Text>, Memory>
     ensures { IfOk result (λ w. w.items ≡ Runs.words_of program.now run.now) }
 {
     let mut words = copy_texts(alloc, program.words.as_slice())?;
-    words.push(run.key.instance.copy()?)?;
-    words.push(run.key.specifics.copy()?)?;
-    words.push(seconds_text(alloc, run.cutoff.0)?)?;
-    words.push(number_text(alloc, program.cutoff_length)?)?;
-    words.push(number_text(alloc, run.key.seed)?)?;
+    push_instance(alloc, &mut words, run)?;
+    push_numbers(alloc, &mut words, program.cutoff_length, run.key.seed)?;
     push_settings(alloc, &mut words, run.key.settings.as_slice())?;
     Ok(words)
 }

@@ -128,7 +128,7 @@ fn told_child<T: Table>(alloc: Global, run: &Run) -> Result<Child, Memory>
     ensures spare { IfOk result (λ c. c.spare ≡ Some run.now) }
     ensures output { IfOk result (λ c. Reads T.outcome c) }
 {
-    let (copy, spare) = (run.copy(alloc)?, run.copy(alloc)?);
+    let (copy, spare) = (run.copy()?, run.copy()?);
     let output = told_output::<T>(alloc, &copy.key, copy.cutoff)?;
     Ok(Child {
         run: copy,
