@@ -8,15 +8,15 @@ use Rattle.param_space.specs.Settings.{named_values, at_places}
 use Rattle.param_space.proofs.BelongsLemmas.{length-Belongs}
 
 -- a parameter's name and the value with this number
-abbrev pub named : Param → ℕ → List ℕ × List ℕ
-named p v = (p.name, slice_index_or p.values v [])
+abbrev pub named_value : Param → ℕ → List ℕ × List ℕ
+named_value p v = (p.name, slice_index_or p.values v [])
 
 pub named_values-more : (params : List Param) (values : List ℕ) (i : ℕ) (d : Param) → i < length params → i < length values
-    → named_values (take (suc i) params) (take (suc i) values) ≡ named_values (take i params) (take i values) ++ named (get_or params i d) (get_or values i 0) ∷ []
+    → named_values (take (suc i) params) (take (suc i) values) ≡ named_values (take i params) (take i values) ++ named_value (get_or params i d) (get_or values i 0) ∷ []
 named_values-more [] values i d h k = absurd (omega arith)
 named_values-more (p ∷ ps) [] i d h k = absurd (omega arith)
 named_values-more (p ∷ ps) (v ∷ vs) zero d h k = refl
-named_values-more (p ∷ ps) (v ∷ vs) (suc i) d h k = ap (λ rest. named p v ∷ rest) (named_values-more ps vs i d (omega arith) (omega arith))
+named_values-more (p ∷ ps) (v ∷ vs) (suc i) d h k = ap (λ rest. named_value p v ∷ rest) (named_values-more ps vs i d (omega arith) (omega arith))
 
 -- one element more, where its place passes and where it doesn't
 at_places-more : {X : Type 0} (passes : ℕ → Bool) (place : ℕ) (xs : List X) (x : X) → at_places passes place (xs ++ x ∷ []) ≡ at_places passes place xs ++ cond (passes (place + length xs)) (x ∷ []) []
@@ -46,11 +46,11 @@ values_until passes params values i = at_places passes 0 (named_values (take i p
 
 -- the parameter at place i adds its own where it passes
 until_more : (passes : ℕ → Bool) (params : List Param) (values : List ℕ) (i : ℕ) (d : Param) (b : Bool) → Belongs params values → i < length params → passes i ≡ b
-    → values_until passes params values (i + 1) ≡ values_until passes params values i ++ cond b (named (get_or params i d) (get_or values i 0) ∷ []) []
+    → values_until passes params values (i + 1) ≡ values_until passes params values i ++ cond b (named_value (get_or params i d) (get_or values i 0) ∷ []) []
 until_more passes params values i d b h lt mark =
     let long = length-Belongs params values h in
     let so_far : List (List ℕ × List ℕ) = named_values (take i params) (take i values) in
-    let here = named (get_or params i d) (get_or values i 0) in
+    let here = named_value (get_or params i d) (get_or values i 0) in
     let place : 0 + length so_far ≡ i = omega (arith, length-named_values params values i (omega (arith, lt)) (omega (arith, lt, long))) in
     rw add-one (ap (at_places passes 0) (named_values-more params values i d lt (omega (arith, lt, long)))
     ∙ at_places-more passes 0 so_far here
@@ -58,7 +58,7 @@ until_more passes params values i d b h lt mark =
     ∙ ap (λ c. at_places passes 0 so_far ++ cond c (here ∷ []) []) mark)
 
 pub passing_more : (passes : ℕ → Bool) (params : List Param) (values : List ℕ) (i : ℕ) (d : Param) → Belongs params values → i < length params → passes i ≡ true
-    → values_until passes params values (i + 1) ≡ values_until passes params values i ++ named (get_or params i d) (get_or values i 0) ∷ []
+    → values_until passes params values (i + 1) ≡ values_until passes params values i ++ named_value (get_or params i d) (get_or values i 0) ∷ []
 passing_more passes params values i d h lt mark = until_more passes params values i d true h lt mark
 
 -- and nothing where it doesn't

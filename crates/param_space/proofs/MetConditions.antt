@@ -61,8 +61,8 @@ all_said n cs order config known p =
     ∙ sym (active_within_is n cs (rank n cs) (rank_rises n cs known.named known.acyclic) (rank_below n cs) config p)
 
 -- what is said of a parameter by the first i conditions in order
-abbrev pub said : ℕ → List Condition → List ℕ → List ℕ → ℕ → ℕ → Bool
-said n cs order config i p = list_all (is_met config (is_active_within (suc n) cs config) p) (take i (in_order cs order))
+abbrev pub met_so_far : ℕ → List Condition → List ℕ → List ℕ → ℕ → ℕ → Bool
+met_so_far n cs order config i p = list_all (is_met config (is_active_within (suc n) cs config) p) (take i (in_order cs order))
 
 -- the condition that is read in its turn
 pub turn_is : (cs : List Condition) (order : List ℕ) (i k : ℕ) (c : Condition) → i < length order → k ≡ get_or order i 0 → c ≡ condition_at cs k → c ≡ condition_at (in_order cs order) i
@@ -70,18 +70,18 @@ turn_is cs order i k c lt at is = is ∙ ap (condition_at cs) at ∙ sym (get_or
 
 -- a test of one more condition
 said_more : (n : ℕ) (cs : List Condition) (order config : List ℕ) (i p : ℕ) → i < length order
-    → said n cs order config (i + 1) p ≡ said n cs order config i p && is_met config (is_active_within (suc n) cs config) p (condition_at (in_order cs order) i)
+    → met_so_far n cs order config (i + 1) p ≡ met_so_far n cs order config i p && is_met config (is_active_within (suc n) cs config) p (condition_at (in_order cs order) i)
 said_more n cs order config i p lt =
     list_all_more (is_met config (is_active_within (suc n) cs config) p) (in_order cs order) i no_condition (omega (arith, lt, length-map order (condition_at cs)))
 
 -- whether the condition in turn is met is told by the marks so far
 pub met_told : (n : ℕ) (cs : List Condition) (order config : List ℕ) (i : ℕ) (c : Condition) (marks : List Bool) (met : Bool) → IsGoneThrough n cs order → i < length order → c ≡ condition_at (in_order cs order) i
-    → ((p : ℕ) → p < Limits.max_params → slice_index_or marks p false ≡ said n cs order config i p) → c.parent < Limits.max_params
+    → ((p : ℕ) → p < Limits.max_params → slice_index_or marks p false ≡ met_so_far n cs order config i p) → c.parent < Limits.max_params
     → met ≡ list_any (λ v. slice_index_or config c.parent 0 == v) c.values && slice_index_or marks c.parent false
     → met ≡ list_any (λ v. slice_index_or config c.parent 0 == v) c.values && is_active_within (suc n) cs config c.parent
 met_told n cs order config i c marks met known lt at so_far below is =
-    let done : said n cs order config i c.parent ≡ is_active_within (suc n) cs config c.parent =
-    subst (λ d. said n cs order config i d.parent ≡ is_active_within (suc n) cs config d.parent) (sym at)
+    let done : met_so_far n cs order config i c.parent ≡ is_active_within (suc n) cs config c.parent =
+    subst (λ d. met_so_far n cs order config i d.parent ≡ is_active_within (suc n) cs config d.parent) (sym at)
     (parent_done config (is_active_within (suc n) cs config) (in_order cs order) i known.ordered.parents_first (omega (arith, lt, length-map order (condition_at cs)))
     ∙ all_said n cs order config known (condition_at (in_order cs order) i).parent) in
     is ∙ ap (λ b. list_any (λ v. slice_index_or config c.parent 0 == v) c.values && b) (so_far c.parent below ∙ done)
@@ -89,11 +89,11 @@ met_told n cs order config i c marks met known lt at so_far below is =
 -- a condition that is met changes no mark
 pub met_said : (n : ℕ) (cs : List Condition) (order config : List ℕ) (i p : ℕ) (c : Condition) → i < length order → c ≡ condition_at (in_order cs order) i
     → list_any (λ v. slice_index_or config c.parent 0 == v) c.values && is_active_within (suc n) cs config c.parent ≡ true
-    → said n cs order config (i + 1) p ≡ said n cs order config i p
+    → met_so_far n cs order config (i + 1) p ≡ met_so_far n cs order config i p
 met_said n cs order config i p c lt at met =
     said_more n cs order config i p lt
-    ∙ ap (λ b. said n cs order config i p && b) (subst (λ d. is_met config (is_active_within (suc n) cs config) p d ≡ true) at (holds (c.child == p)))
-    ∙ and-true (said n cs order config i p)
+    ∙ ap (λ b. met_so_far n cs order config i p && b) (subst (λ d. is_met config (is_active_within (suc n) cs config) p d ≡ true) at (holds (c.child == p)))
+    ∙ and-true (met_so_far n cs order config i p)
   where
     holds : (b : Bool) → (not b || (list_any (λ v. slice_index_or config c.parent 0 == v) c.values && is_active_within (suc n) cs config c.parent)) ≡ true
     holds true = met
@@ -102,15 +102,15 @@ met_said n cs order config i p c lt at met =
 -- one that isn't takes its child's
 pub unmet_said : (n : ℕ) (cs : List Condition) (order config : List ℕ) (i p : ℕ) (c : Condition) (marks : List Bool) → i < length order → c ≡ condition_at (in_order cs order) i
     → list_any (λ v. slice_index_or config c.parent 0 == v) c.values && is_active_within (suc n) cs config c.parent ≡ false
-    → c.child < length marks → slice_index_or marks p false ≡ said n cs order config i p
-    → slice_index_or (slice_set marks c.child false) p false ≡ said n cs order config (i + 1) p
+    → c.child < length marks → slice_index_or marks p false ≡ met_so_far n cs order config i p
+    → slice_index_or (slice_set marks c.child false) p false ≡ met_so_far n cs order config (i + 1) p
 unmet_said n cs order config i p c marks lt at unmet below so_far =
-    by (c.child == p) refl ∙ sym (said_more n cs order config i p lt ∙ ap (λ d. said n cs order config i p && is_met config (is_active_within (suc n) cs config) p d) (sym at))
+    by (c.child == p) refl ∙ sym (said_more n cs order config i p lt ∙ ap (λ d. met_so_far n cs order config i p && is_met config (is_active_within (suc n) cs config) p d) (sym at))
   where
-    by : (b : Bool) → (c.child == p) ≡ b → slice_index_or (slice_set marks c.child false) p false ≡ said n cs order config i p && (not b || (list_any (λ v. slice_index_or config c.parent 0 == v) c.values && is_active_within (suc n) cs config c.parent))
+    by : (b : Bool) → (c.child == p) ≡ b → slice_index_or (slice_set marks c.child false) p false ≡ met_so_far n cs order config i p && (not b || (list_any (λ v. slice_index_or config c.parent 0 == v) c.values && is_active_within (suc n) cs config c.parent))
     by true e =
         let same : p ≡ c.child = grind (arith, nat_tests, e) in
-        get_or-set_at marks c.child p false false same below ∙ sym (ap (λ b. said n cs order config i p && b) unmet ∙ and-false (said n cs order config i p))
+        get_or-set_at marks c.child p false false same below ∙ sym (ap (λ b. met_so_far n cs order config i p && b) unmet ∙ and-false (met_so_far n cs order config i p))
     by false e =
         let other : p ≢ c.child = grind (arith, nat_tests, e) in
-        get_or-set_other marks c.child p false false other ∙ so_far ∙ sym (and-true (said n cs order config i p))
+        get_or-set_other marks c.child p false false other ∙ so_far ∙ sym (and-true (met_so_far n cs order config i p))

@@ -15,12 +15,12 @@ use Rattle.param_space.specs.declared.lists.Condition.{Condition}
 use Rattle.param_space.specs.Order.{no_condition, condition_at, in_order, AreParentsFirst, IsOrder}
 
 -- the rank of a condition's child, and the condition's number
-abbrev pub ranked : List ℕ → List Condition → ℕ → ℕ × ℕ
-ranked ranks cs i = (slice_index ranks (condition_at cs i).child, i)
+abbrev pub ranked_pair : List ℕ → List Condition → ℕ → ℕ × ℕ
+ranked_pair ranks cs i = (slice_index ranks (condition_at cs i).child, i)
 
 -- the numbers of the first n conditions, each with its child's rank
 abbrev pub ranked_pairs : List ℕ → List Condition → ℕ → List (ℕ × ℕ)
-ranked_pairs ranks cs n = map (ranked ranks cs) (range_with_len 0 n)
+ranked_pairs ranks cs n = map (ranked_pair ranks cs) (range_with_len 0 n)
 
 -- one condition more
 pub ranked_more : (ranks : List ℕ) (cs : List Condition) (n r : ℕ) (c : Condition) (pairs : List (ℕ × ℕ)) → c ≡ condition_at cs n → r ≡ slice_index ranks c.child → pairs ≡ ranked_pairs ranks cs n
@@ -28,7 +28,7 @@ pub ranked_more : (ranks : List ℕ) (cs : List Condition) (n r : ℕ) (c : Cond
 ranked_more ranks cs n r c pairs is rank so_far =
     ap (λ ps. ps ++ (r, n) ∷ []) so_far
     ∙ ap (λ k. ranked_pairs ranks cs n ++ (k, n) ∷ []) (rank ∙ ap (λ d. slice_index ranks d.child) is)
-    ∙ sym (map-range_with_len_more (ranked ranks cs) 0 n n (omega arith))
+    ∙ sym (map-range_with_len_more (ranked_pair ranks cs) 0 n n (omega arith))
 
 -- how two pairs compare: by the first, ties by the second
 abbrev pub compared : ℕ × ℕ → ℕ × ℕ → Ordering
@@ -62,8 +62,8 @@ IsRankedPair ranks cs p = (p.1 < length cs) × (p.0 ≡ slice_index ranks (condi
 
 all_ranked : (ranks : List ℕ) (cs : List Condition) → All (IsRankedPair ranks cs) (ranked_pairs ranks cs (length cs))
 all_ranked ranks cs =
-    All-map (IsRankedPair ranks cs) (ranked ranks cs) (range_with_len 0 (length cs))
-    (All-from_get_or (λ i. IsRankedPair ranks cs (ranked ranks cs i)) (range_with_len 0 (length cs)) 0
+    All-map (IsRankedPair ranks cs) (ranked_pair ranks cs) (range_with_len 0 (length cs))
+    (All-from_get_or (λ i. IsRankedPair ranks cs (ranked_pair ranks cs i)) (range_with_len 0 (length cs)) 0
     (λ i lt. (let at : get_or (range_with_len 0 (length cs)) i 0 ≡ 0 + i = get_or-range_with_len 0 (length cs) i 0 (omega (arith, lt, length-range_with_len 0 (length cs))) in omega (arith, at, lt, length-range_with_len 0 (length cs)), refl)))
 
 parents_first : (ranks : List ℕ) (cs : List Condition) (sorted : List (ℕ × ℕ)) → All (λ c. slice_index ranks c.parent < slice_index ranks c.child) cs → All (IsRankedPair ranks cs) sorted → IsSorted compared sorted
@@ -87,7 +87,7 @@ pub sorted_is_order : (ranks : List ℕ) (cs : List Condition) (pairs sorted : L
     → pairs ≡ ranked_pairs ranks cs (length cs) → IsPermutation pairs sorted → IsSorted compared sorted → IsOrder cs (map (λ p. p.1) sorted)
 sorted_is_order ranks cs pairs sorted rises made moved up =
     let read = numbers_read cs sorted in
-    let before : map (condition_of cs) pairs ≡ cs = ap (map (condition_of cs)) made ∙ map-map (condition_of cs) (ranked ranks cs) (range_with_len 0 (length cs)) ∙ all_numbered cs in
+    let before : map (condition_of cs) pairs ≡ cs = ap (map (condition_of cs)) made ∙ map-map (condition_of cs) (ranked_pair ranks cs) (range_with_len 0 (length cs)) ∙ all_numbered cs in
     let known : All (IsRankedPair ranks cs) sorted = All-permutation (IsRankedPair ranks cs) pairs sorted moved (subst (All (IsRankedPair ranks cs)) (sym made) (all_ranked ranks cs)) in
     record {
       all = subst (λ xs. IsPermutation cs xs) (sym read) (subst (λ xs. IsPermutation xs (map (condition_of cs) sorted)) before (IsPermutation-map (condition_of cs) pairs sorted moved));

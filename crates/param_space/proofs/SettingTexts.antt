@@ -9,7 +9,7 @@ use Rattle.param_space.specs.declared.lists.Param.{Param}
 use Rattle.param_space.specs.Configurations.{is_active}
 use Rattle.param_space.specs.Space.{Lists, Belongs}
 use Rattle.param_space.specs.Settings.{named_values, at_places, active_values, setting_text, settings_text, with_setting}
-use Rattle.param_space.proofs.ActiveValues.{named, values_until, passing_more}
+use Rattle.param_space.proofs.ActiveValues.{named_value, values_until, passing_more}
 use Rattle.param_space.proofs.BelongsLemmas.{read_value_in_range}
 
 settings_text-more : (s : List ℕ × List ℕ) (ss : List (List ℕ × List ℕ)) (t : List ℕ × List ℕ)
@@ -44,7 +44,7 @@ pub record IsReading (marks : List Bool) (params : List Param) (values : List �
 
 -- it is the parameter's name and its value there
 read_setting : (marks : List Bool) (params : List Param) (values : List ℕ) (i : ℕ) (p : Param) (texts : List (List ℕ)) (text name value : List ℕ)
-    → IsReading marks params values i p texts text name value → (name, value) ≡ named (get_or params i p) (get_or values i 0)
+    → IsReading marks params values i p texts text name value → (name, value) ≡ named_value (get_or params i p) (get_or values i 0)
 read_setting marks params values i p texts text name value r =
     let below = read_value_in_range params values i p texts r.belongs r.within r.is r.texts-are in
     let same_texts : texts ≡ (get_or params i p).values = r.texts-are ∙ ap (λ q. q.values) r.is in

@@ -36,34 +36,34 @@ pub length-settled : (lists : Lists) (config : List ℕ) → Belongs lists.param
 length-settled lists config h = length-settled_from lists config 0 lists.params config h
 
 -- the first i values of one list, and the others of another
-abbrev pub mixed : List ℕ → List ℕ → ℕ → List ℕ
-mixed new old i = take i new ++ drop i old
+abbrev pub mixed_values : List ℕ → List ℕ → ℕ → List ℕ
+mixed_values new old i = take i new ++ drop i old
 
-same_from : (new old : List ℕ) (i : ℕ) → i < length new → i < length old → get_or new i 0 ≡ get_or old i 0 → mixed new old i ≡ mixed new old (suc i)
+same_from : (new old : List ℕ) (i : ℕ) → i < length new → i < length old → get_or new i 0 ≡ get_or old i 0 → mixed_values new old i ≡ mixed_values new old (suc i)
 same_from [] old i h k e = absurd (omega arith)
 same_from (x ∷ new) [] i h k e = absurd (omega arith)
 same_from (x ∷ new) (y ∷ old) zero h k e = rw e refl
 same_from (x ∷ new) (y ∷ old) (suc i) h k e = ap (λ xs. x ∷ xs) (same_from new old i (omega arith) (omega arith) e)
 
-set_from : (new old : List ℕ) (i v : ℕ) → i < length new → i < length old → v ≡ get_or new i 0 → slice_set (mixed new old i) i v ≡ mixed new old (suc i)
+set_from : (new old : List ℕ) (i v : ℕ) → i < length new → i < length old → v ≡ get_or new i 0 → slice_set (mixed_values new old i) i v ≡ mixed_values new old (suc i)
 set_from [] old i v h k e = absurd (omega arith)
 set_from (x ∷ new) [] i v h k e = absurd (omega arith)
 set_from (x ∷ new) (y ∷ old) zero v h k e = ap (λ w. w ∷ old) e
 set_from (x ∷ new) (y ∷ old) (suc i) v h k e = ap (λ xs. x ∷ xs) (set_from new old i v (omega arith) (omega arith) e)
 
 -- a value that stays
-pub mixed_same : (new old : List ℕ) (i : ℕ) → i < length new → i < length old → get_or new i 0 ≡ get_or old i 0 → mixed new old i ≡ mixed new old (i + 1)
+pub mixed_same : (new old : List ℕ) (i : ℕ) → i < length new → i < length old → get_or new i 0 ≡ get_or old i 0 → mixed_values new old i ≡ mixed_values new old (i + 1)
 mixed_same new old i h k e = rw add-one (same_from new old i h k e)
 
 -- a value that is set
-pub mixed_set : (new old : List ℕ) (i v : ℕ) → i < length new → i < length old → v ≡ get_or new i 0 → slice_set (mixed new old i) i v ≡ mixed new old (i + 1)
+pub mixed_set : (new old : List ℕ) (i v : ℕ) → i < length new → i < length old → v ≡ get_or new i 0 → slice_set (mixed_values new old i) i v ≡ mixed_values new old (i + 1)
 mixed_set new old i v h k e = rw add-one (set_from new old i v h k e)
 
-pub length-mixed : (new old : List ℕ) (i : ℕ) → length new ≡ length old → length (mixed new old i) ≡ length old
+pub length-mixed : (new old : List ℕ) (i : ℕ) → length new ≡ length old → length (mixed_values new old i) ≡ length old
 length-mixed new old i e = omega (arith, length-append (take i new) (drop i old), length-take i new, length-drop i old, e)
 
 -- at the end all are the new ones
-pub mixed_all : (new old : List ℕ) (i : ℕ) → length new ≤ i → length old ≤ i → mixed new old i ≡ new
+pub mixed_all : (new old : List ℕ) (i : ℕ) → length new ≤ i → length old ≤ i → mixed_values new old i ≡ new
 mixed_all new old i h k = ap (λ xs. xs ++ drop i old) (take_all i new h) ∙ ap (λ ys. new ++ ys) (drop_all i old k) ∙ append-nil new
 
 -- a configuration with a value that settling changes is not canonical
@@ -81,11 +81,11 @@ pub record IsSettling (lists : Lists) (config old : List ℕ) (active : List Boo
   pub marked : (p : ℕ) → p < Limits.max_params → slice_index_or active p false ≡ is_active lists old p
   pub few : length lists.params ≤ Limits.max_params
   pub within : i < length lists.params
-  pub so_far : config ≡ mixed (settled_config lists old) old i
+  pub so_far : config ≡ mixed_values (settled_config lists old) old i
 
 -- an active parameter keeps its value
 pub kept_value : (lists : Lists) (config old : List ℕ) (active : List Bool) (i : ℕ) (d : Param) → IsSettling lists config old active i → slice_index_or active i false ≡ true
-    → config ≡ mixed (settled_config lists old) old (i + 1)
+    → config ≡ mixed_values (settled_config lists old) old (i + 1)
 kept_value lists config old active i d h marked =
     let yes : is_active lists old i ≡ true = sym (h.marked i (omega (arith, h.within, h.few))) ∙ marked in
     let value = settled_at lists old i d h.belongs h.within ∙ ap (λ b. cond b (get_or old i 0) (get_or lists.params i d).default) yes in
@@ -93,7 +93,7 @@ kept_value lists config old active i d h marked =
 
 -- any other takes its default
 pub default_value : (lists : Lists) (config old : List ℕ) (active : List Bool) (i : ℕ) (p : Param) → IsSettling lists config old active i → slice_index_or active i false ≡ false → p ≡ get_or lists.params i p
-    → slice_set config i p.default ≡ mixed (settled_config lists old) old (i + 1)
+    → slice_set config i p.default ≡ mixed_values (settled_config lists old) old (i + 1)
 default_value lists config old active i p h marked is =
     let no_mark : is_active lists old i ≡ false = sym (h.marked i (omega (arith, h.within, h.few))) ∙ marked in
     let value = settled_at lists old i p h.belongs h.within ∙ ap (λ b. cond b (get_or old i 0) (get_or lists.params i p).default) no_mark in
@@ -101,7 +101,7 @@ default_value lists config old active i p h marked is =
     ∙ mixed_set (settled_config lists old) old i p.default (omega (arith, h.within, length-settled lists old h.belongs)) (omega (arith, h.within, length-Belongs lists.params old h.belongs)) (ap (λ q. q.default) is ∙ sym value)
 
 -- after all parameters the configuration is the settled one
-pub all_settled : (lists : Lists) (config old : List ℕ) (i : ℕ) → Belongs lists.params old → length lists.params ≤ i → config ≡ mixed (settled_config lists old) old i → config ≡ settled_config lists old
+pub all_settled : (lists : Lists) (config old : List ℕ) (i : ℕ) → Belongs lists.params old → length lists.params ≤ i → config ≡ mixed_values (settled_config lists old) old i → config ≡ settled_config lists old
 all_settled lists config old i belongs end so_far =
     so_far ∙ mixed_all (settled_config lists old) old i (omega (arith, end, length-settled lists old belongs)) (omega (arith, end, length-Belongs lists.params old belongs))
 

@@ -5,7 +5,6 @@ mod activity;
 mod ancestry;
 mod checking;
 mod config;
-mod copies;
 mod limits;
 mod lists;
 mod marks;

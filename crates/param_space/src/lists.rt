@@ -4,7 +4,7 @@ ghost use Rattle.param_space.specs.Faults.{breach_of};
 ghost use Rattle.param_space.specs.declared.lists.SpaceFault.TheVariants.{Memory as NoMemory};
 
 use objective::Memory;
-use plain_text::{Items, Text};
+use plain_text::{Copied, Items, Text};
 use thiserror::Error;
 
 /// A parameter with its values. Values are numbered from 0.
@@ -23,15 +23,17 @@ impl Param {
     pub fn copy(&self) -> Result<Param, Memory>
         ensures { IfOk result (λ p. p ≡ self.now) }
     {
-        let mut values = Vec::new(*self.values.allocator());
-        for value in self.values.as_slice() {
-            values.push(value.copy()?)?;
-        }
         Ok(Param {
             name: self.name.copy()?,
-            values: Items::new(values),
+            values: self.values.copy()?,
             default: self.default,
         })
+    }
+}
+
+impl Copied for Param {
+    fn copied(&self) -> Result<Param, Memory> {
+        self.copy()
     }
 }
 
@@ -60,6 +62,12 @@ impl Condition {
     }
 }
 
+impl Copied for Condition {
+    fn copied(&self) -> Result<Condition, Memory> {
+        self.copy()
+    }
+}
+
 /// A value of a parameter.
 #[derive(Clone, Copy, Debug, PartialEq, Eq)]
 pub struct Pick {
@@ -85,6 +93,12 @@ impl Forbidden {
         Ok(Forbidden {
             picks: Items::new(picks.to_vec(*self.picks.allocator())?),
         })
+    }
+}
+
+impl Copied for Forbidden {
+    fn copied(&self) -> Result<Forbidden, Memory> {
+        self.copy()
     }
 }
 

@@ -11,7 +11,6 @@ ghost use Rattle.param_space.specs.Settings.{name_and_value, settings_text};
 use crate::activity::{activity, forbids_any};
 use crate::checking::checked_order;
 use crate::config::Config;
-use crate::copies::{copied_clauses, copied_conditions, copied_params};
 use crate::lists::{Condition, Forbidden, Param, SpaceFault};
 use crate::marks::Marks;
 use crate::settings::{NamedValue, marked_values, text_of};
@@ -54,8 +53,13 @@ impl Space {
         forbidden: Vec<Forbidden>,
     ) -> Result<Space, SpaceFault>
         ensures ok { IfOk result (λ s. s ≡ space_lists params.items conditions.items forbidden.items) }
-        ensures sound { OnOk result (space_fault (space_lists params.items conditions.items forbidden.items) ≡ None) }
-        ensures fault { IfErr result (λ e. IfSome (breach_of e) (λ b. space_fault (space_lists params.items conditions.items forbidden.items) ≡ Some b)) }
+        ensures sound {
+            OnOk result (space_fault (space_lists params.items conditions.items forbidden.items) ≡ None)
+        }
+        ensures fault {
+            let found = space_fault (space_lists params.items conditions.items forbidden.items) in
+            IfErr result (λ e. IfSome (breach_of e) (λ b. found ≡ Some b))
+        }
     {
         let order = checked_order(
             alloc,
@@ -164,9 +168,9 @@ impl Space {
     {
         let order = self.order.as_slice();
         Ok(Space {
-            params: copied_params(&self.params)?,
-            conditions: copied_conditions(&self.conditions)?,
-            forbidden: copied_clauses(&self.forbidden)?,
+            params: self.params.copy()?,
+            conditions: self.conditions.copy()?,
+            forbidden: self.forbidden.copy()?,
             order: Items::new(order.to_vec(*self.order.allocator())?),
         })
     }
