@@ -53,13 +53,9 @@ impl Space {
         forbidden: Vec<Forbidden>,
     ) -> Result<Space, SpaceFault>
         ensures ok { IfOk result (λ s. s ≡ space_lists params.items conditions.items forbidden.items) }
-        ensures sound {
-            OnOk result (space_fault (space_lists params.items conditions.items forbidden.items) ≡ None)
-        }
-        ensures fault {
-            let found = space_fault (space_lists params.items conditions.items forbidden.items) in
-            IfErr result (λ e. IfSome (breach_of e) (λ b. found ≡ Some b))
-        }
+        ensures sound { OnOk result (space_fault (space_lists params.items conditions.items forbidden.items) ≡ None) }
+        ensures fault { let found = space_fault (space_lists params.items conditions.items forbidden.items) in
+            IfErr result (λ e. IfSome (breach_of e) (λ b. found ≡ Some b)) }
     {
         let order = checked_order(
             alloc,
