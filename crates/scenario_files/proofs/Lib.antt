@@ -1,3 +1,7 @@
-pub mod Readings
-pub mod Counting
-pub mod Pairs
+mod ValueRanges
+mod FileRanges
+mod WordRanges
+mod ScenarioRanges
+mod KeyCounts
+mod WordPairs
+mod LineTexts

@@ -1,5 +1,5 @@
 -- The keys of a scenario and their names.
-use Rattle.std.specs.Prelude.{ℕ, ◌≡◌, List, [], ◌∷◌, Option, Some, bytes_eq, codes, refl}
+use Rattle.std.specs.Prelude.{ℕ, List, [], ◌∷◌, Option, bytes_eq, codes}
 use Rattle.std.specs.List.{find}
 use Rattle.scenario_files.specs.declared.keys.Key.{Key}
 use Rattle.scenario_files.specs.declared.keys.Key.TheVariants.{Algo, Execdir, Deterministic, RunObj, OverallObj, CutoffTime, CutoffLength, TunerTimeout, Paramfile, Outdir, ValidN, InstanceFile, TestInstanceFile, Approach, N, NumRun, MaxComparisons, Workers, R, S, PRestart, CapFloor, PairOrder}
@@ -39,30 +39,3 @@ keys =
 -- the key with a name
 unfoldable pub key_of : List ℕ → Option Key
 key_of name = find (λ k. bytes_eq (name_of k) name) keys
-
--- each key is found by its name
-pub own_name : (k : Key) → key_of (name_of k) ≡ Some k
-unfolding key_of
-own_name Algo = refl
-own_name Execdir = refl
-own_name Deterministic = refl
-own_name RunObj = refl
-own_name OverallObj = refl
-own_name CutoffTime = refl
-own_name CutoffLength = refl
-own_name TunerTimeout = refl
-own_name Paramfile = refl
-own_name Outdir = refl
-own_name ValidN = refl
-own_name InstanceFile = refl
-own_name TestInstanceFile = refl
-own_name Approach = refl
-own_name N = refl
-own_name NumRun = refl
-own_name MaxComparisons = refl
-own_name Workers = refl
-own_name R = refl
-own_name S = refl
-own_name PRestart = refl
-own_name CapFloor = refl
-own_name PairOrder = refl

@@ -1,7 +1,10 @@
+pub mod Limits
+pub mod Faults
 pub mod Keys
 pub mod Values
-pub mod Reading
+pub mod Drafts
+pub mod Files
 pub mod Words
-pub mod Filling
-pub mod Limits
-pub mod Example
+pub mod Scenarios
+pub mod Ranges
+pub mod Examples

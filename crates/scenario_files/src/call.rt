@@ -1,8 +1,9 @@
 //! The words of a call.
 ghost use Rattle.std.specs.Prelude.{◌≡◌, Ok, IfOk, IfErr, OnOk};
-ghost use Rattle.scenario_files.specs.Limits.{AreWordsWithin};
-ghost use Rattle.scenario_files.specs.Values.{IsRefusal};
-ghost use Rattle.scenario_files.specs.Words.{none_given, with_file, with_pair, at_place, named, words_read, IsWordFault};
+ghost use Rattle.plain_text.specs.Faults.{IsFound};
+ghost use Rattle.scenario_files.specs.Faults.{place_of, rule_of};
+ghost use Rattle.scenario_files.specs.Ranges.{AreWordsWithin};
+ghost use Rattle.scenario_files.specs.Words.{no_words, with_file, with_pair, at_place, words_before, words_read};
 
 use crate::draft::Draft;
 use crate::faults::{Refused, ScenarioWhat, WordFault};
@@ -28,7 +29,7 @@ impl Given {
     /// Takes a name for the scenario file.
     fn set_file(&mut self, alloc: Global, value: &str) -> Result<(), Refused>
         ensures value { OnOk result (with_file self.old value.now ≡ Ok self.new) }
-        ensures fault { IfErr result (λ e. IsRefusal e (with_file self.old value.now)) }
+        ensures fault { IfErr result (λ e. IsFound (rule_of e) (with_file self.old value.now)) }
     {
         if self.file.is_some() {
             return Err(Refused::Value(ScenarioWhat::Twice));
@@ -41,7 +42,7 @@ impl Given {
     #[tactic(auto, unfolding(crate::specs::Words::with_pair))]
     fn set_pair(&mut self, alloc: Global, word: &str, value: &str) -> Result<(), Refused>
         ensures value { OnOk result (with_pair self.old word.now value.now ≡ Ok self.new) }
-        ensures fault { IfErr result (λ e. IsRefusal e (with_pair self.old word.now value.now)) }
+        ensures fault { IfErr result (λ e. IsFound (rule_of e) (with_pair self.old word.now value.now)) }
     {
         if word == "-scenariofile" {
             return self.set_file(alloc, value);
@@ -61,7 +62,7 @@ impl Given {
         value: &str,
     ) -> Result<(), WordFault>
         ensures value { OnOk result (with_pair self.old word.now value.now ≡ Ok self.new) }
-        ensures fault { IfErr result (λ e. IsWordFault e (at_place place (with_pair self.old word.now value.now))) }
+        ensures fault { IfErr result (λ e. IsFound (place_of e) (at_place place (with_pair self.old word.now value.now))) }
     {
         match self.set_pair(alloc, word, value) {
             Ok(()) => Ok(()),
@@ -72,9 +73,9 @@ impl Given {
 
     /// Takes all pairs of these words, and tells how many words there are.
     fn add_pairs(&mut self, alloc: Global, words: &[Text]) -> Result<u32, WordFault>
-        requires { self.old ≡ none_given }
-        ensures value { IfOk result (λ n. words_read words.now ≡ named n self.new.draft self.new.file) }
-        ensures fault { IfErr result (λ e. IsWordFault e (words_read words.now)) }
+        requires { self.old ≡ no_words }
+        ensures value { IfOk result (λ n. words_read words.now ≡ words_before n self.new) }
+        ensures fault { IfErr result (λ e. IsFound (place_of e) (words_read words.now)) }
     {
         let mut taken = 0;
         while let [word, value, ..] = &words[taken..] {
@@ -89,8 +90,9 @@ impl Given {
     }
 
     /// All that was given. Fails where the file's name never came.
-    fn named(self, place: u32) -> Result<Words, WordFault>
-        ensures { result ≡ named place self.draft self.file }
+    fn into_words(self, place: u32) -> Result<Words, WordFault>
+        ensures value { IfOk result (λ w. words_before place self ≡ Ok w) }
+        ensures fault { IfErr result (λ e. IsFound (place_of e) (words_before place self)) }
     {
         let Given { file, draft } = self;
         match file {
@@ -112,13 +114,13 @@ impl Given {
 /// words. Or [`WordFault::Memory`].
 pub fn read_words(alloc: Global, words: &[Text]) -> Result<Words, WordFault>
     ensures value { IfOk result (λ w. words_read words.now ≡ Ok w) }
-    ensures fault { IfErr result (λ e. IsWordFault e (words_read words.now)) }
+    ensures fault { IfErr result (λ e. IsFound (place_of e) (words_read words.now)) }
     ensures limits { IfOk result AreWordsWithin }
 {
     let mut given = Given {
         file: None,
-        draft: Draft::nothing(),
+        draft: Draft::no_keys(),
     };
     let place = given.add_pairs(alloc, words)?;
-    given.named(place)
+    given.into_words(place)
 }

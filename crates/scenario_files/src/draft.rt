@@ -1,6 +1,6 @@
 //! What a file or words give of a scenario.
 ghost use Rattle.std.specs.Prelude.{◌≡◌};
-ghost use Rattle.scenario_files.specs.Reading.{nothing};
+ghost use Rattle.scenario_files.specs.Drafts;
 
 use objective::Micros;
 use plain_text::Text;
@@ -72,8 +72,8 @@ pub struct Draft {
 
 impl Draft {
     /// No key is given.
-    pub(crate) fn nothing() -> Draft
-        ensures { result ≡ nothing }
+    pub(crate) fn no_keys() -> Draft
+        ensures { result ≡ Drafts.no_keys }
     {
         Draft {
             algo: None,

@@ -4,6 +4,7 @@ ghost use Rattle.std.specs.Prelude.{◌≡◌};
 ghost use Rattle.scenario_files.specs.declared.faults.Refused.TheVariants as refused;
 ghost use Rattle.scenario_files.specs.declared.faults.ScenarioFault.TheVariants as scenario;
 ghost use Rattle.scenario_files.specs.declared.faults.WordFault.TheVariants as word;
+ghost use Rattle.scenario_files.specs.Faults.{fault_of, rule_of, rule_in_line};
 
 use objective::Memory;
 use thiserror::Error;
@@ -95,5 +96,17 @@ impl From<ScenarioWhat> for Refused {
 
     fn from(what: ScenarioWhat) -> Refused {
         Refused::Value(what)
+    }
+}
+
+impl Refused {
+    /// The fault of the line with this number; 0 for the file as a whole.
+    pub(crate) fn in_line(self, line: u32) -> ScenarioFault
+        ensures { fault_of result ≡ rule_in_line line (rule_of self) }
+    {
+        match self {
+            Refused::Value(what) => ScenarioFault::At { line, what },
+            Refused::Memory => ScenarioFault::Memory,
+        }
     }
 }

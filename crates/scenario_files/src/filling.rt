@@ -1,15 +1,15 @@
 //! A scenario with its defaults filled in.
 ghost use Rattle.std.specs.Prelude.{◌≡◌, Ok, IfOk, IfErr, codes};
 ghost use Rattle.std.specs.Option.{unwrap_or};
-ghost use Rattle.scenario_files.specs.declared.faults.ScenarioFault.TheVariants.{Memory as NoMemory};
-ghost use Rattle.scenario_files.specs.Limits.{AreWithin, IsWithin};
-ghost use Rattle.scenario_files.specs.Reading.{IsReadingFault};
-ghost use Rattle.scenario_files.specs.Filling.{either as either_of, required as required_of, completed, filled};
+ghost use Rattle.plain_text.specs.Faults.{IsFound};
+ghost use Rattle.scenario_files.specs.Faults.{fault_of, rule_of};
+ghost use Rattle.scenario_files.specs.Ranges.{AreWithin, IsWithin};
+ghost use Rattle.scenario_files.specs.Scenarios;
 
 use crate::draft::{Approach, Draft, Overall, PairOrder, RunObj};
-use crate::faults::{ScenarioFault, ScenarioWhat};
-use crate::values::MAX_LENGTH;
-use objective::Micros;
+use crate::faults::{Refused, ScenarioFault, ScenarioWhat};
+use crate::limits::MAX_LENGTH;
+use objective::{Memory, Micros};
 use plain_text::Text;
 use std::alloc::Global;
 
@@ -45,8 +45,8 @@ pub struct Scenario {
 }
 
 /// Each key of the first draft, or else of the second.
-fn either(first: Draft, second: Draft) -> Draft
-    ensures { result ≡ either_of first second }
+fn draft_or(first: Draft, second: Draft) -> Draft
+    ensures { result ≡ Scenarios.draft_or first second }
 {
     Draft {
         algo: first.algo.or(second.algo),
@@ -75,49 +75,68 @@ fn either(first: Draft, second: Draft) -> Draft
     }
 }
 
-/// A value that there must be.
-fn required<T: Drop>(value: Option<T>) -> Result<T, ScenarioFault>
-    ensures { result ≡ required_of value }
+/// The keys that have no default.
+#[derive(Drop)]
+struct Essentials {
+    algo: Text,
+    cutoff_time: Micros,
+    paramfile: Text,
+    instance_file: Text,
+}
+
+/// The keys that have no default. Fails where one of them is not given.
+fn essentials_of(
+    algo: Option<Text>,
+    cutoff_time: Option<Micros>,
+    paramfile: Option<Text>,
+    instance_file: Option<Text>,
+) -> Result<Essentials, ScenarioWhat>
+    ensures { result ≡ Scenarios.essentials_of algo cutoff_time paramfile instance_file }
 {
-    match value {
-        Some(x) => Ok(x),
-        None => Err(ScenarioFault::At {
-            line: 0,
-            what: ScenarioWhat::Missing,
-        }),
-    }
+    Ok(Essentials {
+        algo: algo.ok_or(ScenarioWhat::Missing)?,
+        cutoff_time: cutoff_time.ok_or(ScenarioWhat::Missing)?,
+        paramfile: paramfile.ok_or(ScenarioWhat::Missing)?,
+        instance_file: instance_file.ok_or(ScenarioWhat::Missing)?,
+    })
 }
 
 /// The folder that is given, or the present one.
-fn folder(alloc: Global, given: Option<Text>) -> Result<Text, ScenarioFault>
-    ensures value { IfOk result (λ t. t ≡ unwrap_or given (codes ".")) }
-    ensures fault { IfErr result (λ e. e ≡ NoMemory) }
+fn folder(alloc: Global, given: Option<Text>) -> Result<Text, Memory>
+    ensures { IfOk result (λ t. t ≡ unwrap_or given (codes ".")) }
 {
     match given {
         Some(dir) => Ok(dir),
-        None => Ok(Text::of(alloc, ".")?),
+        None => Text::of(alloc, "."),
     }
 }
 
 /// The scenario of a draft. Fails where a key without a default is not given.
-#[tactic(auto, unfolding(crate::specs::Filling::completed))]
-fn complete(alloc: Global, draft: Draft) -> Result<Scenario, ScenarioFault>
-    ensures value { IfOk result (λ s. completed draft ≡ Ok s) }
-    ensures fault { IfErr result (λ e. IsReadingFault e (completed draft)) }
+#[tactic(auto, unfolding(crate::specs::Scenarios::scenario_of))]
+fn scenario_of(alloc: Global, draft: Draft) -> Result<Scenario, Refused>
+    ensures value { IfOk result (λ s. Scenarios.scenario_of draft ≡ Ok s) }
+    ensures fault { IfErr result (λ e. IsFound (rule_of e) (Scenarios.scenario_of draft)) }
 {
+    let given = essentials_of(
+        draft.algo,
+        draft.cutoff_time,
+        draft.paramfile,
+        draft.instance_file,
+    )?;
+    let execdir = folder(alloc, draft.execdir)?;
     Ok(Scenario {
-        algo: required(draft.algo)?,
-        cutoff_time: required(draft.cutoff_time)?,
-        paramfile: required(draft.paramfile)?,
-        instance_file: required(draft.instance_file)?,
-        execdir: folder(alloc, draft.execdir)?,
+        algo: given.algo,
+        execdir,
         deterministic: draft.deterministic.unwrap_or(false),
         run_obj: draft.run_obj.unwrap_or(RunObj::Runtime),
         overall_obj: draft.overall_obj.unwrap_or(Overall::Mean),
+        cutoff_time: given.cutoff_time,
         cutoff_length: draft.cutoff_length.unwrap_or(MAX_LENGTH),
         tuner_timeout: draft.tuner_timeout,
+        paramfile: given.paramfile,
         outdir: draft.outdir,
         valid_n: draft.valid_n,
+        instance_file: given.instance_file,
         test_instance_file: draft.test_instance_file,
         approach: draft.approach.unwrap_or(Approach::Focused),
         n: draft.n.unwrap_or(100),
@@ -139,9 +158,12 @@ fn complete(alloc: Global, draft: Draft) -> Result<Scenario, ScenarioFault>
 /// `Missing` in line 0 exactly where a key without a default is in neither, or
 /// [`ScenarioFault::Memory`].
 pub fn fill(alloc: Global, file: Draft, words: Draft) -> Result<Scenario, ScenarioFault>
-    ensures value { IfOk result (λ s. filled file words ≡ Ok s) }
-    ensures fault { IfErr result (λ e. IsReadingFault e (filled file words)) }
+    ensures value { IfOk result (λ s. Scenarios.filled_scenario file words ≡ Ok s) }
+    ensures fault { IfErr result (λ e. IsFound (fault_of e) (Scenarios.filled_scenario file words)) }
     ensures limits { AreWithin file → AreWithin words → IfOk result IsWithin }
 {
-    complete(alloc, either(words, file))
+    match scenario_of(alloc, draft_or(words, file)) {
+        Ok(scenario) => Ok(scenario),
+        Err(refused) => Err(refused.in_line(0)),
+    }
 }

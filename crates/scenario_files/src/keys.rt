@@ -1,6 +1,6 @@
 //! The keys of a scenario.
 ghost use Rattle.std.specs.Prelude.{◌≡◌};
-ghost use Rattle.scenario_files.specs.Keys.{name_of, key_of as key_in};
+ghost use Rattle.scenario_files.specs.Keys;
 
 /// A key of a scenario.
 #[derive(Clone, Copy, Debug, PartialEq, Eq)]
@@ -60,7 +60,7 @@ const KEYS: [Key; 23] = [
 impl Key {
     /// Its name.
     fn name(self) -> &'static str
-        ensures { result.now ≡ name_of self }
+        ensures { result.now ≡ Keys.name_of self }
     {
         match self {
             Key::Algo => "algo",
@@ -93,7 +93,7 @@ impl Key {
 /// The key with this name. None exactly where there is none.
 #[tactic(auto, unfolding(crate::specs::Keys::key_of))]
 pub(crate) fn key_of(name: &str) -> Option<Key>
-    ensures { result ≡ key_in name.now }
+    ensures { result ≡ Keys.key_of name.now }
 {
     KEYS.iter().copied().find(|k| k.name() == name)
 }

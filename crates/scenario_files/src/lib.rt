@@ -11,14 +11,14 @@ mod draft;
 mod faults;
 mod filling;
 mod keys;
+mod limits;
 mod reader;
 mod setting;
-#[cfg(test)]
-mod tests;
 mod values;
 
 pub use call::{Words, read_words};
 pub use draft::{Approach, Draft, Overall, PairOrder, RunObj};
 pub use faults::{ScenarioFault, ScenarioWhat, WordFault};
 pub use filling::{Scenario, fill};
+pub use limits::MAX_LENGTH;
 pub use reader::read_scenario;

@@ -1,33 +1,23 @@
 //! The keys that a scenario file gives.
 ghost use Rattle.std.specs.Prelude.{◌≡◌, ◌^◌, ◌<◌, Ok, OnOk, IfOk, IfErr, length};
-ghost use Rattle.plain_text.specs.Lines.{numbered_lines};
-ghost use Rattle.plain_text.specs.Parts.{parted as cut};
-ghost use Rattle.scenario_files.specs.Values.{IsRefusal};
-ghost use Rattle.scenario_files.specs.Limits.{AreWithin};
-ghost use Rattle.scenario_files.specs.Reading.{uncommented as before_comment, nothing, in_line, with_statement, with_line, with_lines, scenario_read, IsReadingFault};
+ghost use Rattle.plain_text.specs.Faults.{in_line, IsFound};
+ghost use Rattle.plain_text.specs.Lines;
+ghost use Rattle.scenario_files.specs.Faults.{fault_of, rule_of};
+ghost use Rattle.scenario_files.specs.Files.{with_statement, with_line, lines_read, scenario_read};
+ghost use Rattle.scenario_files.specs.Ranges.{AreWithin};
 
 use crate::draft::Draft;
 use crate::faults::{Refused, ScenarioFault, ScenarioWhat};
 use crate::values::is_empty;
-use plain_text::{MAX_BYTES, lines, parted, trimmed};
+use plain_text::{MAX_BYTES, numbered_lines, parted, trimmed, uncommented};
 use std::alloc::Global;
 use std::str;
-
-/// What stands before a comment.
-fn uncommented(line: &str) -> &str
-    ensures { result.now ≡ before_comment line.now }
-{
-    match parted(line, '#') {
-        Some((before, _)) => before,
-        None => line,
-    }
-}
 
 impl Draft {
     /// Takes what a line without a comment states.
     fn add_statement(&mut self, alloc: Global, text: &str) -> Result<(), Refused>
         ensures value { OnOk result (with_statement self.old text.now ≡ Ok self.new) }
-        ensures fault { IfErr result (λ e. IsRefusal e (with_statement self.old text.now)) }
+        ensures fault { IfErr result (λ e. IsFound (rule_of e) (with_statement self.old text.now)) }
     {
         if is_empty(text) {
             return Ok(());
@@ -39,10 +29,10 @@ impl Draft {
     }
 
     /// Takes what a line states.
-    #[tactic(auto, unfolding(crate::specs::Reading::with_line))]
+    #[tactic(auto, unfolding(crate::specs::Files::with_line))]
     fn add_line(&mut self, alloc: Global, line: &[u8]) -> Result<(), Refused>
         ensures value { OnOk result (with_line self.old line.now ≡ Ok self.new) }
-        ensures fault { IfErr result (λ e. IsRefusal e (with_line self.old line.now)) }
+        ensures fault { IfErr result (λ e. IsFound (rule_of e) (with_line self.old line.now)) }
     {
         match str::from_utf8(line) {
             Ok(text) => self.add_statement(alloc, uncommented(text)),
@@ -52,13 +42,12 @@ impl Draft {
 
     /// Takes what the line with this number states.
     fn add_numbered(&mut self, alloc: Global, number: u32, line: &[u8]) -> Result<(), ScenarioFault>
-        ensures value { OnOk result (in_line number (with_line self.old line.now) ≡ Ok self.new) }
-        ensures fault { IfErr result (λ e. IsReadingFault e (in_line number (with_line self.old line.now))) }
+        ensures value { OnOk result (with_line self.old line.now ≡ Ok self.new) }
+        ensures fault { IfErr result (λ e. IsFound (fault_of e) (in_line number (with_line self.old line.now))) }
     {
         match self.add_line(alloc, line) {
             Ok(()) => Ok(()),
-            Err(Refused::Value(what)) => Err(ScenarioFault::At { line: number, what }),
-            Err(Refused::Memory) => Err(ScenarioFault::Memory),
+            Err(refused) => Err(refused.in_line(number)),
         }
     }
 }
@@ -66,26 +55,26 @@ impl Draft {
 /// What a text's lines give. Fails with the first fault of a line.
 fn read_lines(alloc: Global, text: &[u8]) -> Result<Draft, ScenarioFault>
     requires { length text.now < 2 ^ 32 }
-    ensures value { IfOk result (λ d. with_lines nothing (numbered_lines text.now) ≡ Ok d) }
-    ensures fault { IfErr result (λ e. IsReadingFault e (with_lines nothing (numbered_lines text.now))) }
+    ensures value { IfOk result (λ d. lines_read (Lines.numbered_lines text.now) ≡ Ok d) }
+    ensures fault { IfErr result (λ e. IsFound (fault_of e) (lines_read (Lines.numbered_lines text.now))) }
 {
-    let mut draft = Draft::nothing();
-    for line in lines(text) {
-        draft.add_numbered(alloc, line.number, &text[line.start..line.end])?;
+    let mut draft = Draft::no_keys();
+    for line in numbered_lines(text) {
+        draft.add_numbered(alloc, line.number, line.bytes)?;
     }
     Ok(draft)
 }
 
 /// Reads the keys that a scenario file gives. Each lies within its limits. A file of more than
-/// 16 MiB is a `BadValue` of line 0.
+/// [`MAX_BYTES`] bytes is a `BadValue` of line 0.
 ///
 /// # Errors
 /// The first rule that is broken, in its line: any but `Missing`. Or
 /// [`ScenarioFault::Memory`].
-#[tactic(auto, unfolding(crate::specs::Reading::scenario_read))]
+#[tactic(auto, unfolding(crate::specs::Files::scenario_read))]
 pub fn read_scenario(alloc: Global, text: &[u8]) -> Result<Draft, ScenarioFault>
     ensures value { IfOk result (λ d. scenario_read text.now ≡ Ok d) }
-    ensures fault { IfErr result (λ e. IsReadingFault e (scenario_read text.now)) }
+    ensures fault { IfErr result (λ e. IsFound (fault_of e) (scenario_read text.now)) }
     ensures limits { IfOk result AreWithin }
 {
     if text.len() > MAX_BYTES {

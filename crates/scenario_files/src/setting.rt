@@ -1,8 +1,9 @@
 //! A draft takes a key.
 ghost use Rattle.std.specs.Prelude.{◌≡◌, Ok, IfErr, OnOk, IfOk};
-ghost use Rattle.scenario_files.specs.Keys.{key_of as key_in};
-ghost use Rattle.scenario_files.specs.Reading.{with_found};
-ghost use Rattle.scenario_files.specs.Values.{is_given, text_of as text_in, with_value, with_key, IsRefusal};
+ghost use Rattle.plain_text.specs.Faults.{IsFound};
+ghost use Rattle.scenario_files.specs.Drafts.{has_key, with_value, with_key, with_name};
+ghost use Rattle.scenario_files.specs.Faults.{rule_of};
+ghost use Rattle.scenario_files.specs.Values;
 
 use crate::draft::Draft;
 use crate::faults::{Refused, ScenarioWhat};
@@ -11,17 +12,14 @@ use crate::values::{
     approach_of, count_within, cutoff_length_of, flag_of, is_empty, overall_of, pair_order_of,
     run_obj_of, share_of, time_within,
 };
-use objective::Memory;
+use objective::{MAX_COMPARISONS, MAX_CUTOFF, MAX_INITIAL, MAX_RUNS, MAX_STRENGTH, MAX_WORKERS};
 use plain_text::Text;
 use std::alloc::Global;
 
-/// The greatest cutoff time, in microseconds.
-const MAX_CUTOFF: u64 = 1_000_000_000_000;
-
 /// A text that isn't of blanks alone.
 pub(crate) fn text_of(alloc: Global, text: &str) -> Result<Text, Refused>
-    ensures value { IfOk result (λ t. text_in text.now ≡ Ok t) }
-    ensures fault { IfErr result (λ e. IsRefusal e (text_in text.now)) }
+    ensures value { IfOk result (λ t. Values.text_of text.now ≡ Ok t) }
+    ensures fault { IfErr result (λ e. IsFound (rule_of e) (Values.text_of text.now)) }
 {
     if is_empty(text) {
         return Err(Refused::Value(ScenarioWhat::BadValue));
@@ -32,7 +30,7 @@ pub(crate) fn text_of(alloc: Global, text: &str) -> Result<Text, Refused>
 impl Draft {
     /// Whether the draft has the key.
     fn has(&self, key: Key) -> bool
-        ensures { result ≡ is_given self.now key }
+        ensures { result ≡ has_key self.now key }
     {
         match key {
             Key::Algo => self.algo.is_some(),
@@ -62,10 +60,10 @@ impl Draft {
     }
 
     /// Puts a key at what its value is read as.
-    #[tactic(auto, unfolding(crate::specs::Values::with_value))]
+    #[tactic(auto, unfolding(crate::specs::Drafts::with_value))]
     fn set_value(&mut self, alloc: Global, key: Key, text: &str) -> Result<(), Refused>
         ensures value { OnOk result (with_value self.old key text.now ≡ Ok self.new) }
-        ensures fault { IfErr result (λ e. IsRefusal e (with_value self.old key text.now)) }
+        ensures fault { IfErr result (λ e. IsFound (rule_of e) (with_value self.old key text.now)) }
     {
         match key {
             Key::Algo => self.algo = Some(text_of(alloc, text)?),
@@ -82,12 +80,16 @@ impl Draft {
             Key::InstanceFile => self.instance_file = Some(text_of(alloc, text)?),
             Key::TestInstanceFile => self.test_instance_file = Some(text_of(alloc, text)?),
             Key::Approach => self.approach = Some(approach_of(text)?),
-            Key::N => self.n = Some(count_within(1, 10_000, text)?),
+            Key::N => self.n = Some(count_within(1, MAX_RUNS, text)?),
             Key::NumRun => self.num_run = Some(count_within(0, u32::MAX, text)?),
-            Key::MaxComparisons => self.max_comparisons = Some(count_within(0, 100_000, text)?),
-            Key::Workers => self.workers = Some(count_within(1, 64, text)?),
-            Key::R => self.r = Some(count_within(0, 1000, text)?),
-            Key::S => self.s = Some(count_within(1, 100, text)?),
+            Key::MaxComparisons => self.max_comparisons = Some(count_within(
+                0,
+                MAX_COMPARISONS,
+                text,
+            )?),
+            Key::Workers => self.workers = Some(count_within(1, MAX_WORKERS, text)?),
+            Key::R => self.r = Some(count_within(0, MAX_INITIAL, text)?),
+            Key::S => self.s = Some(count_within(1, MAX_STRENGTH, text)?),
             Key::PRestart => self.p_restart = Some(share_of(text)?),
             Key::CapFloor => self.cap_floor = Some(time_within(1, u64::MAX, text)?),
             Key::PairOrder => self.pair_order = Some(pair_order_of(text)?),
@@ -99,7 +101,7 @@ impl Draft {
     /// wrong with the value; then nothing is known of the draft.
     pub(crate) fn set(&mut self, alloc: Global, key: Key, text: &str) -> Result<(), Refused>
         ensures value { OnOk result (with_key self.old key text.now ≡ Ok self.new) }
-        ensures fault { IfErr result (λ e. IsRefusal e (with_key self.old key text.now)) }
+        ensures fault { IfErr result (λ e. IsFound (rule_of e) (with_key self.old key text.now)) }
     {
         if self.has(key) {
             return Err(Refused::Value(ScenarioWhat::Twice));
@@ -115,8 +117,8 @@ impl Draft {
         name: &str,
         value: &str,
     ) -> Result<(), Refused>
-        ensures value { OnOk result (with_found self.old value.now (key_in name.now) ≡ Ok self.new) }
-        ensures fault { IfErr result (λ e. IsRefusal e (with_found self.old value.now (key_in name.now))) }
+        ensures value { OnOk result (with_name self.old name.now value.now ≡ Ok self.new) }
+        ensures fault { IfErr result (λ e. IsFound (rule_of e) (with_name self.old name.now value.now)) }
     {
         match key_of(name) {
             Some(key) => self.set(alloc, key, value),

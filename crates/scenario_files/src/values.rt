@@ -1,29 +1,26 @@
 //! The forms of values.
 ghost use Rattle.std.specs.Prelude.{◌≡◌};
-ghost use Rattle.std.specs.Char.{is_ascii_digit};
 ghost use Rattle.std.specs.List.{list_all};
 ghost use Rattle.plain_text.specs.Times.{micros_read};
-ghost use Rattle.plain_text.specs.Words.{is_blank as blank};
-ghost use Rattle.scenario_files.specs.Values.{text_of as text_in, flag_of as flag_in, run_obj_of as run_obj_in, overall_of as overall_in, approach_of as approach_in, pair_order_of as pair_order_in, count_within as count_in, cutoff_length_of as cutoff_length_in, decimal_of, time_within as time_in, share_of as share_in};
+ghost use Rattle.plain_text.specs.Words;
+ghost use Rattle.scenario_files.specs.Values;
 
 use crate::draft::{Approach, Overall, PairOrder, RunObj};
 use crate::faults::ScenarioWhat;
+use crate::limits::MAX_LENGTH;
 use objective::Micros;
-use plain_text::{TimeFault, is_blank, read_count, read_micros};
-
-/// The greatest cutoff length, which `max` stands for.
-pub(crate) const MAX_LENGTH: u32 = 2_147_483_647;
+use plain_text::{TimeFault, all_digits, is_blank, read_count, read_micros};
 
 /// Whether the text has nothing but blanks.
 pub(crate) fn is_empty(text: &str) -> bool
-    ensures { result ≡ list_all blank text.now }
+    ensures { result ≡ list_all Words.is_blank text.now }
 {
     text.as_bytes().iter().all(|b| is_blank(*b))
 }
 
 /// `0` or `1`.
 pub(crate) fn flag_of(text: &str) -> Result<bool, ScenarioWhat>
-    ensures { result ≡ flag_in text.now }
+    ensures { result ≡ Values.flag_of text.now }
 {
     match text {
         "0" => Ok(false),
@@ -34,7 +31,7 @@ pub(crate) fn flag_of(text: &str) -> Result<bool, ScenarioWhat>
 
 /// `runtime`.
 pub(crate) fn run_obj_of(text: &str) -> Result<RunObj, ScenarioWhat>
-    ensures { result ≡ run_obj_in text.now }
+    ensures { result ≡ Values.run_obj_of text.now }
 {
     match text {
         "runtime" => Ok(RunObj::Runtime),
@@ -44,7 +41,7 @@ pub(crate) fn run_obj_of(text: &str) -> Result<RunObj, ScenarioWhat>
 
 /// `mean`, `mean10` or `mean1000`.
 pub(crate) fn overall_of(text: &str) -> Result<Overall, ScenarioWhat>
-    ensures { result ≡ overall_in text.now }
+    ensures { result ≡ Values.overall_of text.now }
 {
     match text {
         "mean" => Ok(Overall::Mean),
@@ -56,7 +53,7 @@ pub(crate) fn overall_of(text: &str) -> Result<Overall, ScenarioWhat>
 
 /// `basic` or `focused`.
 pub(crate) fn approach_of(text: &str) -> Result<Approach, ScenarioWhat>
-    ensures { result ≡ approach_in text.now }
+    ensures { result ≡ Values.approach_of text.now }
 {
     match text {
         "basic" => Ok(Approach::Basic),
@@ -67,7 +64,7 @@ pub(crate) fn approach_of(text: &str) -> Result<Approach, ScenarioWhat>
 
 /// `shuffled` or `file`.
 pub(crate) fn pair_order_of(text: &str) -> Result<PairOrder, ScenarioWhat>
-    ensures { result ≡ pair_order_in text.now }
+    ensures { result ≡ Values.pair_order_of text.now }
 {
     match text {
         "shuffled" => Ok(PairOrder::Shuffled),
@@ -76,19 +73,12 @@ pub(crate) fn pair_order_of(text: &str) -> Result<PairOrder, ScenarioWhat>
     }
 }
 
-/// Whether all bytes are digits.
-fn is_digits(bytes: &[u8]) -> bool
-    ensures { result ≡ list_all is_ascii_digit bytes.now }
-{
-    bytes.iter().all(|b| b.is_ascii_digit())
-}
-
 /// A count within these limits.
 pub(crate) fn count_within(low: u32, high: u32, text: &str) -> Result<u32, ScenarioWhat>
-    ensures { result ≡ count_in low high text.now }
+    ensures { result ≡ Values.count_within low high text.now }
 {
     let digits = text.as_bytes();
-    if !is_digits(digits) || digits.is_empty() {
+    if !all_digits(digits) || digits.is_empty() {
         return Err(ScenarioWhat::BadValue);
     }
     match read_count(digits) {
@@ -99,7 +89,7 @@ pub(crate) fn count_within(low: u32, high: u32, text: &str) -> Result<u32, Scena
 
 /// `max`, or a count.
 pub(crate) fn cutoff_length_of(text: &str) -> Result<u32, ScenarioWhat>
-    ensures { result ≡ cutoff_length_in text.now }
+    ensures { result ≡ Values.cutoff_length_of text.now }
 {
     if text == "max" {
         return Ok(MAX_LENGTH);
@@ -109,7 +99,7 @@ pub(crate) fn cutoff_length_of(text: &str) -> Result<u32, ScenarioWhat>
 
 /// A decimal of seconds.
 fn read_decimal(text: &str) -> Result<Micros, ScenarioWhat>
-    ensures { result ≡ decimal_of (micros_read text.now) }
+    ensures { result ≡ Values.decimal_of (micros_read text.now) }
 {
     match read_micros(text.as_bytes()) {
         Ok(time) => Ok(time),
@@ -120,7 +110,7 @@ fn read_decimal(text: &str) -> Result<Micros, ScenarioWhat>
 
 /// A decimal of seconds, of so many microseconds.
 pub(crate) fn time_within(low: u64, high: u64, text: &str) -> Result<Micros, ScenarioWhat>
-    ensures { result ≡ time_in low high text.now }
+    ensures { result ≡ Values.time_within low high text.now }
 {
     let time = read_decimal(text)?;
     if time.0 < low || high < time.0 {
@@ -131,7 +121,7 @@ pub(crate) fn time_within(low: u64, high: u64, text: &str) -> Result<Micros, Sce
 
 /// A decimal of at most one, in ten-thousandths.
 pub(crate) fn share_of(text: &str) -> Result<u16, ScenarioWhat>
-    ensures { result ≡ share_in text.now }
+    ensures { result ≡ Values.share_of text.now }
 {
     let millionths = read_decimal(text)?.0;
     if millionths > 1_000_000 {

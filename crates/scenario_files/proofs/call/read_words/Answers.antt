@@ -1,14 +1,11 @@
-use Rattle.std.proofs.Common.{◌≡◌, Ok, Err, Result, List, ℕ, sym, ◌∙◌}
-use Rattle.std.specs.Prelude.{IfOk}
-use Rattle.scenario_files.specs.declared.call.Words.{Words}
-use Rattle.scenario_files.specs.declared.faults.WordFault.{WordFault}
-use Rattle.scenario_files.specs.Limits.{AreWordsWithin, words_within}
-use Rattle.scenario_files.specs.Words.{words_read}
+use Rattle.std.proofs.Common.{◌≡◌, Ok, ◌∙◌}
+use Rattle.std.proofs.lemmas.Result.{IfOk-weaker}
+use Rattle.scenario_files.specs.Ranges.{AreWordsWithin}
+use Rattle.scenario_files.specs.Words.{words_before}
+use Rattle.scenario_files.proofs.WordRanges.{words_within}
 use Rattle.scenario_files.proofs.call.read_words.Goals as goal
 
-within : (words : List (List ℕ)) (r : Result Words WordFault) → words_read words ≡ r → IfOk r AreWordsWithin
-within words (Ok x) h = words_within words x h
-within words (Err e) h = tt
-
 pub returns-clause-limits : goal.returns-clause-limits
-returns-clause-limits c = within c.args.words.now c.named.result (c.in_ok-place.ensures.value ∙ sym c.named.ensures)
+returns-clause-limits c =
+    IfOk-weaker c.into_words.result (λ w. words_before c.in_ok-place.place c.add_pairs.new.self ≡ Ok w) AreWordsWithin
+    (λ w h. words_within c.args.words.now w (c.in_ok-place.ensures.value ∙ h)) c.into_words.ensures.value

@@ -1,41 +1,36 @@
-use Rattle.std.proofs.Common.{◌≡◌, ◌∙◌}
-use Rattle.std.proofs.lemmas.List.Elements.{All-same, All-rest}
+use Rattle.std.proofs.Common.{ℕ, List, Result, ◌∙◌}
 use Rattle.std.proofs.lemmas.Result.{err_from_is_err_and}
-use Rattle.plain_text.specs.Lines.{lines}
-use Rattle.plain_text.specs.LinePlaces.{IsLineWithin, lines_within}
-use Rattle.scenario_files.specs.Reading.{in_line, with_line}
-use Rattle.scenario_files.proofs.Readings.{fault_moves, bytes_of, read_none, read_all, read_more, read_stops}
+use Rattle.plain_text.specs.Lines.{numbered_lines}
+use Rattle.plain_text.proofs.LineFoldLemmas.{fold-none, fold-all, fold-more, fold-stops}
+use Rattle.scenario_files.specs.declared.draft.Draft.{Draft}
+use Rattle.scenario_files.specs.declared.faults.ScenarioWhat.{ScenarioWhat}
+use Rattle.scenario_files.specs.Drafts.{no_keys}
+use Rattle.scenario_files.specs.Files.{with_line, lines_read}
 use Rattle.scenario_files.proofs.reader.read_lines.Goals as goal
+
+-- a line is taken into a draft, whatever its number
+abbrev step : Draft → ℕ → List ℕ → Result Draft ScenarioWhat
+step d number line = with_line d line
 
 pub loop-line-init : goal.loop-line-init
 loop-line-init c =
-    let text = c.args.text.now in
-    let left = c.into_iter-line-iterator.result in
-    let same : left ≡ lines text = c.into_iter-line-iterator.ensures.into_iter_gives ∙ c.lines-line-items.ensures in
-    record {
-      within = All-same (IsLineWithin text) left (lines text) same (lines_within text);
-      read = read_none text c.nothing-draft.result left c.nothing-draft.ensures same;
-    }
+    let lines = numbered_lines c.args.text.now in
+    fold-none step no_keys c.no_keys-draft.result lines c.into_iter-line-iterator.result c.no_keys-draft.ensures (c.into_iter-line-iterator.ensures.into_iter_gives ∙ c.numbered_lines-line-items.ensures)
 
 pub returns-in_err-add_numbered-clause-fault : goal.returns-in_err-add_numbered-clause-fault
 returns-in_err-add_numbered-clause-fault c =
-    let text = c.args.text.now in
     let line = c.in-Some.line in
     let p = err_from_is_err_and c.from_residual.result c.from_residual.ensures.1 in
     rw (p.1, p.2)
-    (fault_moves _ (in_line line.number (with_line c.loop-line.draft (bytes_of text line))) _
-    (λ f h. read_stops text c.loop-line.draft line c.loop-line.line-iterator c.next.new.self f c.loop-line.invariant.read c.in-Some.ensures.steps h)
+    (fold-stops step _ (lines_read (numbered_lines c.args.text.now)) c.loop-line.draft line.number line.bytes.now c.loop-line.line-iterator c.next.new.self c.loop-line.invariant c.in-Some.ensures.steps
     c.in_err-add_numbered.ensures.fault)
 
 pub loop-line-preserved : goal.loop-line-preserved
 loop-line-preserved c =
-    let text = c.args.text.now in
     let line = c.in-Some.line in
-    let steps = c.in-Some.ensures.steps in
-    record {
-      within = All-rest (IsLineWithin text) line c.next.new.self c.loop-line.line-iterator steps c.loop-line.invariant.within;
-      read = read_more text c.loop-line.draft c.add_numbered.new.self line c.loop-line.line-iterator c.next.new.self c.loop-line.invariant.read steps c.in_ok-add_numbered.ensures.value;
-    }
+    fold-more step (lines_read (numbered_lines c.args.text.now)) c.loop-line.draft c.add_numbered.new.self line.number line.bytes.now c.loop-line.line-iterator c.next.new.self c.loop-line.invariant c.in-Some.ensures.steps
+    c.in_ok-add_numbered.ensures.value
 
 pub returns-clause-value : goal.returns-clause-value
-returns-clause-value c = read_all c.args.text.now c.loop-line.draft c.loop-line.line-iterator c.in-None.ensures.steps.0 c.loop-line.invariant.read
+returns-clause-value c =
+    fold-all step (lines_read (numbered_lines c.args.text.now)) c.loop-line.draft c.loop-line.line-iterator c.loop-line.invariant c.in-None.ensures.steps.0

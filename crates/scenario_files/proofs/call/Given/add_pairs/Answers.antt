@@ -1,8 +1,9 @@
-use Rattle.std.proofs.Common.{◌≡◌, ◌+◌, Ok, drop, ap, sym, ◌∙◌, arith}
+use Rattle.std.proofs.Common.{◌≡◌, ◌+◌, ◌∷◌, Ok, drop, ap, sym, ◌∙◌, arith}
 use Rattle.std.proofs.lemmas.Result.{err_from_is_err_and}
-use Rattle.scenario_files.specs.Words.{with_pair, with_words, at_place}
-use Rattle.scenario_files.proofs.Counting.{none_taken, two_taken, place_few}
-use Rattle.scenario_files.proofs.Pairs.{pair_left, pair_within, pair_taken, pair_stops, one_left, none_left, fault_moves}
+use Rattle.plain_text.proofs.LineFoldLemmas.{fault-same}
+use Rattle.scenario_files.specs.Words.{with_pair, with_words, words_read}
+use Rattle.scenario_files.proofs.KeyCounts.{none_taken, two_taken, place_few}
+use Rattle.scenario_files.proofs.WordPairs.{pair_left, pair_within, pair_taken, pair_stops, one_left, none_left}
 use Rattle.scenario_files.proofs.call.Given.add_pairs.Goals as goal
 
 pub loop-taken-init : goal.loop-taken-init
@@ -27,9 +28,10 @@ returns-in_err-add_pair-clause-fault c =
     let v = c.value-item.result in
     let p = err_from_is_err_and c.from_residual.result c.from_residual.ensures.1 in
     rw (p.1, p.2)
-    (fault_moves _ (at_place taken (with_pair g w v)) _
-    (λ f h. c.loop-taken.invariant.read ∙ ap (with_words taken g) (pair_left words taken w v c.in-len2-up.len_at_least c.word-item.is c.value-item.is) ∙ pair_stops taken g w v (drop (taken + 2) words) f h)
-    (rw (c.as_str.ensures, c.as_str-in-len2-up.ensures) at c.in_err-add_pair.ensures.fault))
+    (fault-same _ (with_words taken g (w ∷ v ∷ drop (taken + 2) words)) (words_read words)
+    (sym (c.loop-taken.invariant.read ∙ ap (with_words taken g) (pair_left words taken w v c.in-len2-up.len_at_least c.word-item.is c.value-item.is)))
+    (pair_stops _ taken g w v (drop (taken + 2) words)
+    (rw (c.as_str.ensures, c.as_str-in-len2-up.ensures) at c.in_err-add_pair.ensures.fault)))
 
 pub loop-taken-preserved : goal.loop-taken-preserved
 loop-taken-preserved c =

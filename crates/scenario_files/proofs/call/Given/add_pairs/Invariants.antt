@@ -1,6 +1,6 @@
 use Rattle.std.proofs.Common.{◌≡◌, ◌≤◌, ◌-◌, length, drop}
 use Rattle.scenario_files.specs.Words.{with_words, words_read}
-use Rattle.scenario_files.proofs.Counting.{IsPlace}
+use Rattle.scenario_files.proofs.KeyCounts.{IsPlace}
 use Rattle.scenario_files.proofs.call.Given.add_pairs.Given as goal
 
 -- what the pairs so far give, and then the words that are left

@@ -1,11 +1,11 @@
 -- Pairs of words one after another.
-use Rattle.std.proofs.Common.{ℕ, ◌≡◌, ◌<◌, ◌≤◌, ◌+◌, ◌-◌, List, [], ◌∷◌, Result, Ok, Err, length, get_or, take, drop, ap, sym, ◌∙◌, arith}
+use Rattle.std.proofs.Common.{ℕ, ◌≡◌, ◌<◌, ◌≤◌, ◌+◌, ◌-◌, List, [], ◌∷◌, Option, Ok, Err, length, get_or, take, drop, ap, sym, ◌∙◌, arith}
 use Rattle.std.proofs.lemmas.List.{drop_more, drop_all, take_rest, get_or-drop, length-drop}
+use Rattle.plain_text.specs.Faults.{IsFound}
+use Rattle.plain_text.specs.Results.{◌>>=◌}
+use Rattle.plain_text.proofs.LineFoldLemmas.{fault_moves}
 use Rattle.scenario_files.specs.declared.call.Given.{Given}
-use Rattle.scenario_files.specs.declared.faults.WordFault.{WordFault}
-use Rattle.scenario_files.specs.declared.faults.WordFault.TheVariants.{At, Memory}
-use Rattle.scenario_files.specs.Values.{◌>>=◌}
-use Rattle.scenario_files.specs.Words.{with_pair, at_place, named, with_words, IsWordFault}
+use Rattle.scenario_files.specs.Words.{with_pair, at_place, words_before, with_words}
 
 -- what is left from a place on
 abbrev pub left : List (List ℕ) → ℕ → List (List ℕ)
@@ -35,23 +35,18 @@ unfolding with_words
 pair_taken n g h w v later is = ap (λ r. at_place n r >>= λ x. with_words (n + 2) x later) is
 
 -- a pair that is wrong
-pub pair_stops : (n : ℕ) (g : Given) (w v : List ℕ) (later : List (List ℕ)) (f : WordFault) → at_place n (with_pair g w v) ≡ Err f → with_words n g (w ∷ v ∷ later) ≡ Err f
+pub pair_stops : (o : Option ℕ) (n : ℕ) (g : Given) (w v : List ℕ) (later : List (List ℕ)) → IsFound o (at_place n (with_pair g w v)) → IsFound o (with_words n g (w ∷ v ∷ later))
 unfolding with_words
-pair_stops n g w v later f is = ap (λ r. r >>= λ x. with_words (n + 2) x later) is
+pair_stops o n g w v later h = fault_moves o (at_place n (with_pair g w v)) (with_words n g (w ∷ v ∷ later)) (λ f is. ap (λ r. r >>= λ x. with_words (n + 2) x later) is) h
 
 -- a word without a value
-pub one_left : (ws : List (List ℕ)) (n : ℕ) (g : Given) → length (left ws n) < 2 → n < length ws → with_words n g (drop n ws) ≡ Err (At n)
+pub one_left : (ws : List (List ℕ)) (n : ℕ) (g : Given) → length (left ws n) < 2 → n < length ws → with_words n g (drop n ws) ≡ Err n
 unfolding with_words
 one_left ws n g few some =
     let last : length ws ≤ n + 1 = omega (arith, few, ap length (take_rest ws n), length-drop n ws) in
     ap (with_words n g) (drop_more ws n [] some ∙ ap (λ xs. get_or ws n [] ∷ xs) (drop_all (n + 1) ws last))
 
 -- no word
-pub none_left : (ws : List (List ℕ)) (n : ℕ) (g : Given) → length ws ≤ n → with_words n g (drop n ws) ≡ named n g.draft g.file
+pub none_left : (ws : List (List ℕ)) (n : ℕ) (g : Given) → length ws ≤ n → with_words n g (drop n ws) ≡ words_before n g
 unfolding with_words
 none_left ws n g past = ap (with_words n g) (drop_all n ws past)
-
--- a fault in one reading is one in another
-pub fault_moves : {A B : Type 0} (e : WordFault) (r : Result A WordFault) (q : Result B WordFault) → ((f : WordFault) → r ≡ Err f → q ≡ Err f) → IsWordFault e r → IsWordFault e q
-fault_moves (At place) r q moves h = moves (At place) h
-fault_moves Memory r q moves h = tt

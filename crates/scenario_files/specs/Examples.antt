@@ -1,0 +1,5 @@
+pub mod KeyNames
+pub mod ElevenLines
+pub mod CarriageReturns
+pub mod RestartShares
+pub mod CallWords
