@@ -1,5 +1,3 @@
 pub mod State
 pub mod View
-pub mod Steady
-pub mod Evaluations
-pub mod Keeps
+pub mod Laws

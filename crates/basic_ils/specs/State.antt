@@ -3,12 +3,12 @@ use Rattle.std.specs.Prelude.{ℕ, ◌≡◌, ◌≤◌, Bool, true, false, not,
 use Rattle.param_space.specs.Space.{defaults}
 use Rattle.uncapped.specs.Procedure.{Settings, Sums, Incumbent, PlainState, Procedure, ◌>>=◌, give}
 use Rattle.uncapped.specs.Setup.{Setup}
-use Rattle.uncapped.specs.Evaluation.{after_ask, after_entry, after_win, counted, evaluate, better_basic}
+use Rattle.uncapped.specs.Evaluation.{after_ask, after_entry, after_win, counts_after, evaluate, better_basic}
 use Rattle.uncapped.specs.Uncapped.{opening_basic}
 use Rattle.ils_face.specs.Rules.{Rules}
 use Rattle.ils_face.specs.declared.asks.Reply.{Reply}
 use Rattle.ils_face.specs.declared.asks.Reply.TheVariants.{Exact, Exceeds}
-use Rattle.ils_frame.specs.Comparing.{Phase, Ready, Asking, Decided, Parts}
+use Rattle.ils_frame.specs.Comparers.{Phase, Ready, Asking, Decided, Parts}
 
 -- how far a comparison is
 pub data Place : Type 0 where
@@ -18,6 +18,7 @@ pub data Place : Type 0 where
   First : (first : Settings) → (bound : ℕ) → Place  -- then the first one, up to the second one's cost
   Compared : Bool → Place  -- whether the first one won
 
+-- how far BasicILS is, with the incumbents so far
 pub record State : Type 0 where
   pub max_runs : ℕ  -- the places of each evaluation
   pub last : Incumbent
@@ -43,12 +44,12 @@ place_after (First first bound) Exceeds = Compared false
 place_after (Compared won) r = Compared won
 
 -- the configuration that is evaluated, or else the incumbent
-abbrev pub evaluated : Settings → Place → Settings
-evaluated incumbent Opening = incumbent
-evaluated incumbent Opened = incumbent
-evaluated incumbent (Second first second) = second
-evaluated incumbent (First first bound) = first
-evaluated incumbent (Compared won) = incumbent
+abbrev pub evaluated_config : Settings → Place → Settings
+evaluated_config incumbent Opening = incumbent
+evaluated_config incumbent Opened = incumbent
+evaluated_config incumbent (Second first second) = second
+evaluated_config incumbent (First first bound) = first
+evaluated_config incumbent (Compared won) = incumbent
 
 -- another configuration costs less than the incumbent
 abbrev pub is_better : Incumbent → Settings → ℕ → Bool
@@ -57,7 +58,7 @@ is_better last θ x = not (bytes_eq θ last.config) && nat_lt x last.sum
 -- a cost makes a new incumbent: the default's, and then any that is lower
 abbrev pub is_renewed : Incumbent → Place → ℕ → Bool
 is_renewed last Opening x = true
-is_renewed last place x = is_better last (evaluated last.config place) x
+is_renewed last place x = is_better last (evaluated_config last.config place) x
 
 -- a configuration as incumbent, from the present comparison on
 abbrev pub entry : ℕ → Incumbent → Settings → ℕ → Incumbent
@@ -70,41 +71,41 @@ entry_where false e = []
 
 -- the entries that a reply adds
 abbrev pub added_at : ℕ → Incumbent → Place → Reply → List Incumbent
-added_at n last place (Exact x) = entry_where (is_renewed last place x.0) (entry n last (evaluated last.config place) x.0)
+added_at n last place (Exact x) = entry_where (is_renewed last place x.0) (entry n last (evaluated_config last.config place) x.0)
 added_at n last place Exceeds = []
 
 -- the incumbent, after these entries
-abbrev pub newest : Incumbent → List Incumbent → Incumbent
-newest last [] = last
-newest last (e ∷ more) = e
+abbrev pub last_after : Incumbent → List Incumbent → Incumbent
+last_after last [] = last
+last_after last (e ∷ more) = e
 
 -- ---- the procedure's state
 
 -- after an evaluation, whatever its cost
-abbrev pub measured : Settings → ℕ → Option ℕ → PlainState → PlainState
-measured θ n bound s = record (after_ask θ n bound s) { counts = counted s.counts θ n }
+abbrev pub after_evaluation : Settings → ℕ → Option ℕ → PlainState → PlainState
+after_evaluation θ n bound s = record (after_ask θ n bound s) { counts = counts_after s.counts θ n }
 
 -- a new incumbent, where it is one
-abbrev pub won_where : Bool → Settings → ℕ → ℕ → PlainState → PlainState
-won_where true θ n x s = after_win θ n x s
-won_where false θ n x s = s
+abbrev pub win_where : Bool → Settings → ℕ → ℕ → PlainState → PlainState
+win_where true θ n x s = after_win θ n x s
+win_where false θ n x s = s
 
 -- after the reply to an evaluation in a comparison
-abbrev pub told : ℕ → Incumbent → Settings → Reply → PlainState → PlainState
-told n last θ (Exact x) s = won_where (is_better last θ x.0) θ n x.0 s
-told n last θ Exceeds s = s
+abbrev pub after_reply : ℕ → Incumbent → Settings → Reply → PlainState → PlainState
+after_reply n last θ (Exact x) s = win_where (is_better last θ x.0) θ n x.0 s
+after_reply n last θ Exceeds s = s
 
 -- after the reply to the opening evaluation
-abbrev pub told_first : ℕ → Settings → Reply → PlainState → PlainState
-told_first n start (Exact x) s = after_entry start n x.0 s
-told_first n start Exceeds s = s
+abbrev pub after_opening : ℕ → Settings → Reply → PlainState → PlainState
+after_opening n start (Exact x) s = after_entry start n x.0 s
+after_opening n start Exceeds s = s
 
 -- after a reply
 abbrev pub replied_at : ℕ → Incumbent → Place → Reply → PlainState → PlainState
-replied_at n last Opening r s = told_first n last.config r (measured last.config n None s)
+replied_at n last Opening r s = after_opening n last.config r (after_evaluation last.config n None s)
 replied_at n last Opened r s = s
-replied_at n last (Second first second) r s = told n last second r (measured second n None s)
-replied_at n last (First first bound) r s = told n last first r (measured first n (Some bound) s)
+replied_at n last (Second first second) r s = after_reply n last second r (after_evaluation second n None s)
+replied_at n last (First first bound) r s = after_reply n last first r (after_evaluation first n (Some bound) s)
 replied_at n last (Compared won) r s = s
 
 -- what is to come of the opening evaluation or of a comparison
@@ -115,8 +116,9 @@ coming_at setup sums (Second first second) = better_basic setup sums first secon
 coming_at setup sums (First first bound) = evaluate sums first setup.max_runs (Some bound) >>= λ x. give (nat_le x bound)
 coming_at setup sums (Compared won) = give won
 
-abbrev pub coming : Setup → Sums → State → Procedure Bool
-coming setup sums c = coming_at setup sums c.place
+-- the same of a state
+abbrev pub coming_in : Setup → Sums → State → Procedure Bool
+coming_in setup sums c = coming_at setup sums c.place
 
 -- ---- the comparer
 
@@ -129,30 +131,31 @@ left_at (First first bound) = 1
 left_at (Compared won) = 0
 
 -- after a reply
-abbrev pub after : State → Reply → State
-after c r = record {
+abbrev pub state_after : State → Reply → State
+state_after c r = record {
   max_runs = c.max_runs;
-  last = newest c.last (added_at c.max_runs c.last c.place r);
+  last = last_after c.last (added_at c.max_runs c.last c.place r);
   place = place_after c.place r;
   entries = c.entries ++ added_at c.max_runs c.last c.place r;
 }
 
 -- a comparison of this number begins
-abbrev pub begun : State → Settings → Settings → ℕ → State
-begun c θ φ m = record {
+abbrev pub state_at_begin : State → Settings → Settings → ℕ → State
+state_at_begin c θ φ m = record {
   max_runs = c.max_runs;
   last = record c.last { compared = m };
   place = Second θ φ;
   entries = c.entries;
 }
 
-abbrev pub basic : Parts State
-basic = record {
+-- how BasicILS goes on, and what it shows
+abbrev pub basic_parts : Parts State
+basic_parts = record {
   phase = λ c. phase_at c.max_runs c.last.config c.place;
   last = λ c. c.last;
   entries = λ c. c.entries;
-  after = after;
-  begun = begun;
+  after = state_after;
+  begun = state_at_begin;
   added = λ c r. added_at c.max_runs c.last c.place r;
   left = λ c. left_at c.place;
   replied = λ c r s. replied_at c.max_runs c.last c.place r s;
@@ -160,8 +163,8 @@ basic = record {
 }
 
 -- before any reply
-abbrev pub opened : Rules → State
-opened rules = record {
+abbrev pub first_state : Rules → State
+first_state rules = record {
   max_runs = rules.max_runs;
   last = record { compared = 0; runs = 0; sum = 0; config = defaults rules.space.params };
   place = Opening;
@@ -179,8 +182,8 @@ IsPlaceFit allowed compared (First first bound) = (1 ≤ compared) × allowed fi
 IsPlaceFit allowed compared (Compared won) = 1 ≤ compared
 
 -- the configurations of all entries are allowed
-abbrev pub AreAllowed : (Settings → Type 0) → List Incumbent → Type 0
-AreAllowed allowed es = All (λ e. allowed e.config) es
+abbrev pub AreEntriesAllowed : (Settings → Type 0) → List Incumbent → Type 0
+AreEntriesAllowed allowed es = All (λ e. allowed e.config) es
 
 -- it was reached by fitting replies
 pub record IsFit (max_runs : ℕ) (allowed : Settings → Type 0) (c : State) : Type 0 where
@@ -188,7 +191,7 @@ pub record IsFit (max_runs : ℕ) (allowed : Settings → Type 0) (c : State) : 
   pub some : 1 ≤ max_runs
   pub incumbent : allowed c.last.config
   pub place : IsPlaceFit allowed c.last.compared c.place
-  pub entries : AreAllowed allowed c.entries
+  pub entries : AreEntriesAllowed allowed c.entries
 
 -- nothing was evaluated yet
 pub record IsFresh (start : Settings) (last : Incumbent) (s : PlainState) : Type 0 where

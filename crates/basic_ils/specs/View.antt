@@ -4,7 +4,7 @@ use Rattle.uncapped.specs.Procedure.{Settings}
 use Rattle.ils_face.specs.Replies.{ask_for}
 use Rattle.ils_face.specs.declared.asks.Ask.{Ask}
 use Rattle.ils_face.specs.declared.asks.Ask.TheVariants as ask
-use Rattle.ils_frame.specs.Comparing.{question_in}
+use Rattle.ils_frame.specs.Comparers.{question_in}
 use Rattle.basic_ils.specs.declared.place.Place as place
 use Rattle.basic_ils.specs.declared.place.Place.TheVariants as held
 use Rattle.basic_ils.specs.State.{Place, Opening, Opened, Second, First, Compared, phase_at}

@@ -1,6 +1,6 @@
 //! The comparer of BasicILS.
 ghost use Rattle.std.specs.Prelude.{◌≡◌, ◌++◌, ◌∷◌, [], IfOk, OnOk, OnErr, bytes_eq};
-ghost use Rattle.basic_ils.specs.State.{evaluated, is_renewed, entry, place_after};
+ghost use Rattle.basic_ils.specs.State.{evaluated_config, is_renewed, entry, place_after};
 
 use crate::place::Place;
 use ils_face::{Ask, Entry, Reply, Rules};
@@ -49,7 +49,7 @@ fn same_values(left: &[u16], right: &[u16]) -> bool
 impl Basic {
     /// The configuration that is evaluated, or else the incumbent.
     fn evaluated(&self) -> &Config
-        ensures { result.now ≡ evaluated self.now.last.config self.now.place }
+        ensures { result.now ≡ evaluated_config self.now.last.config self.now.place }
     {
         match &self.asked {
             Ask::Full { config, .. } | Ask::Versus { config, .. } => config,
@@ -73,7 +73,7 @@ impl Basic {
     /// What is evaluated becomes the incumbent, with its entry. Where there is no memory
     /// left, all is as it was.
     fn renew(&mut self, sum: Sum) -> Result<(), Memory>
-        ensures ok { OnOk result (self.new ≡ record self.old { last = entry self.old.max_runs self.old.last (evaluated self.old.last.config self.old.place) sum.0; entries = self.old.entries ++ entry self.old.max_runs self.old.last (evaluated self.old.last.config self.old.place) sum.0 ∷ [] }) }
+        ensures ok { OnOk result (self.new ≡ record self.old { last = entry self.old.max_runs self.old.last (evaluated_config self.old.last.config self.old.place) sum.0; entries = self.old.entries ++ entry self.old.max_runs self.old.last (evaluated_config self.old.last.config self.old.place) sum.0 ∷ [] }) }
         ensures err { OnErr result (self.new ≡ self.old) }
     {
         let incumbent = self.evaluated().copy()?;
@@ -144,17 +144,17 @@ fn copy_entries(entries: &Vec<Entry>) -> Result<Vec<Entry>, Memory>
 }
 
 impl Comparer for Basic {
-    ghost use Rattle.basic_ils.specs.State.{basic, opened, coming, IsFit, Stands};
-    ghost use Rattle.basic_ils.specs.Steady.{rules_steady};
-    ghost use Rattle.basic_ils.specs.Keeps.{rules_keep};
+    ghost use Rattle.basic_ils.specs.State.{basic_parts, first_state, coming_in, IsFit, Stands};
+    ghost use Rattle.basic_ils.specs.Laws.SteadyLaw.{rules_steady};
+    ghost use Rattle.basic_ils.specs.Laws.KeepsLaw.{rules_keep};
     ghost use Rattle.param_space.specs.Configurations.{IsConfig};
     ghost use Rattle.param_space.specs.Space.{defaults};
     ghost use Rattle.uncapped.specs.Evaluation.{better_basic};
     ghost use Rattle.uncapped.specs.Uncapped.{opening_basic};
 
-    ghost parts = { basic };
+    ghost parts = { basic_parts };
 
-    ghost at_open = { opened };
+    ghost at_open = { first_state };
 
     ghost fit = { λ rules. IsFit rules.max_runs (IsConfig rules.space) };
 
@@ -164,7 +164,7 @@ impl Comparer for Basic {
 
     ghost better = { better_basic };
 
-    ghost coming = { coming };
+    ghost coming = { coming_in };
 
     fn open(alloc: Global, rules: &Rules) -> Result<Basic, Memory> {
         let incumbent = rules.space.default_config()?;

@@ -5,6 +5,3 @@ mod basic;
 mod place;
 
 pub use basic::Basic;
-
-#[cfg(test)]
-mod tests;

@@ -1,3 +1,4 @@
-pub mod Perturbing
-pub mod Turning
-pub mod Begins
+mod PerturbationSteps
+mod UpcomingLemmas
+mod MachineBegin
+mod OneMoreReply

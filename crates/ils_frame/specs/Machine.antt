@@ -1,17 +1,18 @@
 -- A search over any comparer, as a machine that takes one reply at a time.
 use Rattle.std.specs.Prelude.{ℕ, zero, suc, ◌+◌, ◌-◌, ◌*◌, ◌==◌, Bool, true, false, List, [], ◌∷◌, Option, Some, None, if◌then◌else◌}
-use Rattle.uncapped.specs.Procedure.{Settings, PlainState, Finished, Procedure, ◌>>=◌, stop}
 use Rattle.uncapped.specs.Setup.{Setup}
 use Rattle.ils_face.specs.declared.asks.Reply.{Reply}
 use Rattle.ils_face.specs.Replies.{ask_for}
 use Rattle.ils_face.specs.Rules.{Rules}
-use Rattle.ils_face.specs.Shown.{View}
+use Rattle.ils_face.specs.Views.{View}
 use Rattle.ils_frame.specs.declared.pending.Course.{Course}
 use Rattle.ils_frame.specs.declared.pending.Pending.{Pending}
 use Rattle.ils_frame.specs.declared.pending.Pending.TheVariants.{Opening}
-use Rattle.ils_frame.specs.Comparing.{Parts, question_in, decision_in}
-use Rattle.ils_frame.specs.Nexts.{Next, Compare, Finish, next, following}
+use Rattle.ils_frame.specs.Comparers.{Parts, question_in, decision_in}
+use Rattle.ils_frame.specs.NextComparison.{Next, Compare, Finish, next}
+use Rattle.ils_face.specs.Setups.{setup_of}
 
+-- a comparer with what stands between two comparisons
 pub record Machine (S : Type 0) : Type 0 where
   pub comparer : S
   pub pending : Pending  -- what the present comparison is for
@@ -37,22 +38,22 @@ module _ {S : Type 0} (parts : Parts S) (setup : Setup) where
   settle c purpose e (Some won) = begin c (next setup (parts.last c).compared purpose won e)
 
   -- the machine before any reply
-  abbrev pub opened : S → Machine S
-  opened first = settle first Opening 0 (decision_in (parts.phase first))
+  abbrev pub first_machine : S → Machine S
+  first_machine first = settle first Opening 0 (decision_in (parts.phase first))
 
   -- the machine after one more reply
-  abbrev pub answered : Machine S → Reply → Machine S
-  answered f r = settle (parts.after f.comparer r) f.pending f.event (decision_in (parts.phase (parts.after f.comparer r)))
+  abbrev pub next_machine : Machine S → Reply → Machine S
+  next_machine f r = settle (parts.after f.comparer r) f.pending f.event (decision_in (parts.phase (parts.after f.comparer r)))
 
   -- the machine after these replies
   unfoldable pub after_all : Machine S → List Reply → Machine S
   after_all f [] = f
-  after_all f (r ∷ later) = after_all (answered f r) later
+  after_all f (r ∷ later) = after_all (next_machine f r) later
 
   -- answers of so many comparisons, at most
-  abbrev pub spare : ℕ → ℕ
-  spare zero = 0
-  spare (suc n) = 8 * setup.max_runs + 17 + spare n
+  abbrev pub answers_left : ℕ → ℕ
+  answers_left zero = 0
+  answers_left (suc n) = 8 * setup.max_runs + 17 + answers_left n
 
   -- what the machine shows
   abbrev pub view_of : Machine S → View
@@ -60,35 +61,18 @@ module _ {S : Type 0} (parts : Parts S) (setup : Setup) where
     ask = ask_for (question_in (parts.phase f.comparer));
     entries = parts.entries f.comparer;
     last = parts.last f.comparer;
-    left = spare (setup.budget - (parts.last f.comparer).compared) + parts.left f.comparer;
+    left = answers_left (setup.budget - (parts.last f.comparer).compared) + parts.left f.comparer;
   }
-
-  -- ---- how the procedure's state goes on with it
-
-  -- the state when the next comparison begins
-  abbrev pub begin_state : S → Next → PlainState → PlainState
-  begin_state c (Compare purpose θ φ e) s = if (parts.last c).compared == setup.budget
-      then record s { event = e }
-      else parts.started c θ φ ((parts.last c).compared + 1) (record s { event = e })
-  begin_state c (Finish e) s = record s { event = e }
-
-  unfoldable pub settle_state : S → Pending → ℕ → Option Bool → PlainState → PlainState
-  settle_state c purpose e None s = s
-  settle_state c purpose e (Some won) s = begin_state c (next setup (parts.last c).compared purpose won e) s
-
-  -- the state after one more reply
-  abbrev pub answered_state : Machine S → Reply → PlainState → PlainState
-  answered_state f r s = settle_state (parts.after f.comparer r) f.pending f.event (decision_in (parts.phase (parts.after f.comparer r))) (parts.replied f.comparer r s)
-
-  -- what is to come of the search
-  module _ (better : Settings → Settings → Procedure Bool) (coming : S → Procedure Bool) where
-    abbrev pub coming_at : Bool → S → Pending → Procedure (Unit {0})
-    coming_at true c purpose = stop Finished
-    coming_at false c purpose = coming c >>= following setup better purpose
-
-    abbrev pub search_coming : Machine S → Procedure (Unit {0})
-    search_coming f = coming_at f.over f.comparer f.pending
 
 -- a comparer and its course as the machine
 abbrev pub machine_of : {S : Type 0} → S → Course → Machine S
 machine_of c course = record { comparer = c; pending = course.pending; event = course.event; over = course.over }
+
+module _ {S : Type 0} (parts : Parts S) (first : S) (rules : Rules) where
+  -- the machine of a search by its rules and replies
+  abbrev pub machine_after : List Reply → Machine S
+  machine_after rs = after_all parts (setup_of rules) (first_machine parts (setup_of rules) first) rs
+
+  -- what a search shows by its rules and replies
+  abbrev pub shown_after : List Reply → View
+  shown_after rs = view_of parts (setup_of rules) (machine_after rs)

@@ -1,11 +1,11 @@
 //! The begin of a comparison.
 ghost use Rattle.std.specs.Prelude.{◌≡◌, ◌==◌, ◌+◌, ◌≤◌, not, None, IfOk, [], if◌then◌else◌};
 ghost use Rattle.ils_face.specs.Rules.{AreRules};
-ghost use Rattle.ils_frame.specs.Answering.{machine_after};
+ghost use Rattle.ils_frame.specs.Machine;
+ghost use Rattle.ils_frame.specs.Machine.{machine_after, machine_of};
 ghost use Rattle.ils_face.specs.Setups.{setup_of};
-ghost use Rattle.ils_frame.specs.Comparing.{question_in};
-ghost use Rattle.ils_frame.specs.Machine.{machine_of, begin as begin_next};
-ghost use Rattle.ils_frame.specs.Upcoming.{upcoming_seen};
+ghost use Rattle.ils_frame.specs.Comparers.{question_in};
+ghost use Rattle.ils_frame.specs.UpcomingComparison.{upcoming_seen};
 
 use crate::comparer::Comparer;
 use crate::pending::{Course, Pending, Stage};
@@ -40,7 +40,7 @@ pub(crate) fn begin<C: Comparer>(
 )
     requires ready { question_in (C.parts.phase comparer.old) ≡ None }
     requires within { (C.parts.last comparer.old).compared ≤ rules.now.budget }
-    ensures { machine_of comparer.new course.new ≡ begin_next C.parts (setup_of rules.now) comparer.old (upcoming_seen course.old.pending course.old.event upcoming) }
+    ensures { machine_of comparer.new course.new ≡ Machine.begin C.parts (setup_of rules.now) comparer.old (upcoming_seen course.old.pending course.old.event upcoming) }
 {
     match upcoming {
         Upcoming::Along { first, second } => {

@@ -7,10 +7,10 @@ ghost use Rattle.uncapped.specs.Procedure.{Settings, Sums, PlainState, Procedure
 ghost use Rattle.uncapped.specs.Setup.{Setup};
 ghost use Rattle.ils_face.specs.Replies.{Fits, ask_for};
 ghost use Rattle.ils_face.specs.Rules.{AreRules};
-ghost use Rattle.ils_face.specs.Shown.{sums_under};
+ghost use Rattle.ils_face.specs.Follows.{sums_under};
 ghost use Rattle.ils_face.specs.Setups.{setup_of};
 ghost use Rattle.ils_face.specs.declared.rules.Rules.{Rules};
-ghost use Rattle.ils_frame.specs.Comparing.{Parts, IsSteady, Keeps, stage_of, question_in, decision_in};
+ghost use Rattle.ils_frame.specs.Comparers.{Parts, IsSteadyComparer, Keeps, stage_of, question_in, decision_in};
 
 use crate::pending::Stage;
 use ils_face::{Ask, Entry, Reply, Rules};
@@ -97,7 +97,7 @@ pub trait Comparer: Sized + Drop {
         ensures { result.0 ≡ (parts.last self.now).sum };
 
     /// What holds whatever fitting replies come.
-    ghost steady: { (rules : Rules) → AreRules rules → IsSteady parts (fit rules) rules.max_runs (IsConfig rules.space) (defaults rules.space.params) (at_open rules) };
+    ghost steady: { (rules : Rules) → AreRules rules → IsSteadyComparer parts (fit rules) rules.max_runs (IsConfig rules.space) (defaults rules.space.params) (at_open rules) };
 
     /// With the replies of a table it does what the procedure does.
     ghost keeps: { (rules : Rules) (T : Table) → AreRules rules → Keeps parts (fit rules) (stands rules (sums_under rules T)) (coming (setup_of rules) (sums_under rules T)) (better (setup_of rules) (sums_under rules T)) (opening (setup_of rules) (sums_under rules T)) (setup_of rules) (sums_under rules T) (at_open rules) };

@@ -1,8 +1,10 @@
 //! What an event draws: neighbours in an order, a random step, a perturbation.
 ghost use Rattle.std.specs.Prelude.{◌≡◌, ◌+◌, ◌<◌, ◌≤◌, ◌^◌, All, length, IfOk};
 ghost use Rattle.param_space.specs.Configurations.{IsConfig};
-ghost use Rattle.ils_face.specs.Setups.{stream_of as stream_at, picked as picked_from, setup_of};
-ghost use Rattle.ils_frame.specs.Nexts.{ordered, stepped, perturbed as perturbed_from};
+ghost use Rattle.ils_face.specs.Setups;
+ghost use Rattle.ils_face.specs.Setups.{configs_at, setup_of};
+ghost use Rattle.ils_frame.specs.NextComparison;
+ghost use Rattle.ils_frame.specs.NextComparison.{perturbation};
 
 use crate::pending::Neighbours;
 use ils_face::Rules;
@@ -16,7 +18,7 @@ use std::collections::VecDeque;
 /// The stream of a search event.
 pub(crate) fn stream_of(event: u64) -> u64
     requires { event < 2 ^ 61 }
-    ensures value { result ≡ stream_at event }
+    ensures value { result ≡ Setups.stream_of event }
     ensures known { result < 2 ^ 62 }
 {
     2 * event
@@ -25,7 +27,7 @@ pub(crate) fn stream_of(event: u64) -> u64
 /// The configurations with these numbers.
 fn picked(alloc: Global, configs: &[Config], numbers: &[u32]) -> Result<Neighbours, Memory>
     requires { All (λ i. i < length configs.now) numbers.now }
-    ensures { IfOk result (λ n. n ≡ picked_from configs.now numbers.now) }
+    ensures { IfOk result (λ n. n ≡ configs_at configs.now numbers.now) }
 {
     let mut picked = VecDeque::new(alloc);
     for number in numbers {
@@ -44,7 +46,7 @@ pub(crate) fn neighbours_in_order(
 ) -> Result<Neighbours, Memory>
     requires config { IsConfig rules.now.space config.now }
     requires event { event < 2 ^ 61 }
-    ensures { IfOk result (λ n. n ≡ ordered (setup_of rules.now) config.now event) }
+    ensures { IfOk result (λ n. n ≡ NextComparison.neighbours_in_order (setup_of rules.now) config.now event) }
 {
     let found = neighbours(alloc, &rules.space, config)?;
     let count = found.len() as u32;
@@ -58,7 +60,7 @@ pub(crate) fn neighbours_in_order(
 fn random_step(alloc: Global, rules: &Rules, config: &Config, event: u64) -> Result<Config, Memory>
     requires config { IsConfig rules.now.space config.now }
     requires event { event < 2 ^ 61 }
-    ensures { IfOk result (λ c. c ≡ stepped (setup_of rules.now) config.now event) }
+    ensures { IfOk result (λ c. c ≡ NextComparison.random_step (setup_of rules.now) config.now event) }
 {
     let found = neighbours(alloc, &rules.space, config)?;
     if found.is_empty() {
@@ -77,7 +79,7 @@ pub(crate) fn perturbed(
 ) -> Result<Config, Memory>
     requires config { IsConfig rules.now.space config }
     requires event { event < 2 ^ 60 }
-    ensures value { IfOk result (λ c. c ≡ (perturbed_from (setup_of rules.now) rules.now.strength config event).config) }
+    ensures value { IfOk result (λ c. c ≡ (perturbation (setup_of rules.now) rules.now.strength config event).config) }
     ensures sound { IfOk result (λ c. IsConfig rules.now.space c) }
 {
     let mut reached = config;

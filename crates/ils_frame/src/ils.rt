@@ -27,10 +27,10 @@ pub struct Ils<C: Comparer> {
 impl<C: Comparer> Model for Ils<C> {
     ghost use Rattle.std.specs.Prelude.{◌≡◌};
     ghost use Rattle.ils_face.specs.Rules.{AreRules};
-    ghost use Rattle.ils_face.specs.Shown.{AreFitting};
+    ghost use Rattle.ils_face.specs.Views.{AreFitting};
     ghost use Rattle.ils_face.specs.declared.asks.Ask.TheVariants.{End};
     ghost use Rattle.ils_frame.specs.Machine.{History, machine_of};
-    ghost use Rattle.ils_frame.specs.Answering.{machine_after, shown_after};
+    ghost use Rattle.ils_frame.specs.Machine.{machine_after, shown_after};
 
     ghost Value = { History };
 
@@ -41,10 +41,13 @@ impl<C: Comparer> Model for Ils<C> {
 
 impl<C: Comparer> Search for Ils<C> {
     ghost use Rattle.ils_face.specs.Setups.{setup_of};
-    ghost use Rattle.ils_face.specs.Shown.{sums_under};
+    ghost use Rattle.ils_face.specs.Follows.{sums_under};
     ghost use Rattle.uncapped.specs.Searching.{search_after};
+    ghost use Rattle.uncapped.specs.Totals.{quiet};
     ghost use Rattle.uncapped.specs.Uncapped.{run_after, at_first};
-    ghost use Rattle.ils_frame.specs.Answering.{shown_after, laws_steady, laws_follow};
+    ghost use Rattle.ils_frame.specs.Machine.{shown_after};
+    ghost use Rattle.ils_frame.specs.Laws.SteadyLaw.{laws_steady};
+    ghost use Rattle.ils_frame.specs.Laws.FollowsLaw.{laws_follow, laws_finish};
 
     ghost rules_of = { λ s. s.rules };
 
@@ -57,6 +60,8 @@ impl<C: Comparer> Search for Ils<C> {
     ghost steady = { λ rules are. laws_steady C.parts (C.at_open rules) rules are (C.fit rules) (C.steady rules are) };
 
     ghost follows = { λ rules T are. laws_follow C.parts (C.at_open rules) rules are (C.fit rules) (C.steady rules are) (C.stands rules (sums_under rules T)) (C.coming (setup_of rules) (sums_under rules T)) (C.better (setup_of rules) (sums_under rules T)) (C.opening (setup_of rules) (sums_under rules T)) T (C.keeps rules T are) };
+
+    ghost finishes = { λ rules T are. laws_finish C.parts (C.at_open rules) rules are (C.fit rules) (C.steady rules are) (C.stands rules (sums_under rules (quiet T))) (C.coming (setup_of rules) (sums_under rules (quiet T))) (C.better (setup_of rules) (sums_under rules (quiet T))) (C.opening (setup_of rules) (sums_under rules (quiet T))) T (C.keeps rules (quiet T) are) };
 
     fn open(alloc: Global, rules: &Rules) -> Result<Ils<C>, Memory> {
         let kept = rules.copy()?;
@@ -105,10 +110,10 @@ impl<C: Comparer> Search for Ils<C> {
 
     fn copy(&self) -> Result<Ils<C>, Memory> {
         Ok(Ils {
-            rules: self.rules.copy()?,
             replies: self.replies.clone()?,
             comparer: self.comparer.copy()?,
             course: self.course.copy()?,
+            rules: self.rules.copy()?,
             end: Ask::End,
         })
     }

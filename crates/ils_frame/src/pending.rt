@@ -1,5 +1,5 @@
 //! What the present comparison is for.
-ghost use Rattle.ils_frame.specs.Upcoming.{advanced as advanced_from};
+ghost use Rattle.ils_frame.specs.UpcomingComparison.{pending_along};
 ghost use Rattle.std.specs.Prelude.{◌≡◌, ◌∷◌, [], slice_get, IfOk, IfSome, IfNone};
 
 use objective::Memory;
@@ -135,6 +135,25 @@ pub(crate) enum Pending {
     },
 }
 
+/// The same improvement.
+fn copy_improving(
+    after: &After,
+    left: u32,
+    current: &Config,
+    neighbour: &Config,
+    rest: &Neighbours,
+) -> Result<Pending, Memory>
+    ensures { IfOk result (λ p. p ≡ Pending.Improving after.now left current.now neighbour.now rest.now) }
+{
+    Ok(Pending::Improving {
+        after: after.copy()?,
+        left,
+        current: current.copy()?,
+        neighbour: neighbour.copy()?,
+        rest: rest.copy()?,
+    })
+}
+
 impl Pending {
     /// The same.
     pub(crate) fn copy(&self) -> Result<Pending, Memory>
@@ -157,13 +176,7 @@ impl Pending {
                 current,
                 neighbour,
                 rest,
-            } => Ok(Pending::Improving {
-                after: after.copy()?,
-                left: *left,
-                current: current.copy()?,
-                neighbour: neighbour.copy()?,
-                rest: rest.copy()?,
-            }),
+            } => copy_improving(after, *left, current, neighbour, rest),
             Pending::Returning { more, found, ils } => Ok(Pending::Returning {
                 more: *more,
                 found: found.copy()?,
@@ -174,7 +187,7 @@ impl Pending {
 
     /// The next neighbour of the same list is tried. Takes no memory.
     pub(crate) fn advance(&mut self)
-        ensures { self.new ≡ advanced_from self.old }
+        ensures { self.new ≡ pending_along self.old }
     {
         if let Pending::Improving {
             left,

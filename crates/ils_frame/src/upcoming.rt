@@ -3,10 +3,10 @@ ghost use Rattle.std.specs.Prelude.{if◌then◌else◌, ℕ, ◌+◌, ◌≡◌
 ghost use Rattle.param_space.specs.Configurations.{IsConfig};
 ghost use Rattle.uncapped.specs.Procedure.{Settings};
 ghost use Rattle.ils_face.specs.Setups.{setup_of};
-ghost use Rattle.ils_frame.specs.Naming.{IsPendingAllowed};
+ghost use Rattle.ils_frame.specs.AllowedPending.{IsPendingAllowed};
 ghost use Rattle.ils_frame.specs.declared.pending.Pending.{Pending};
-ghost use Rattle.ils_frame.specs.Nexts.{ordered, restarted, among as among_next, next_turn as turn_next, next_after as after_next, next_improved as improved_next, next_tried as tried_next, next as next_of};
-ghost use Rattle.ils_frame.specs.Upcoming.{among_of, upcoming_seen};
+ghost use Rattle.ils_frame.specs.NextComparison;
+ghost use Rattle.ils_frame.specs.UpcomingComparison.{among_of, upcoming_seen};
 
 use crate::drawing::{neighbours_in_order, perturbed, random_config, restarts};
 use crate::pending::{After, Neighbours, Pending};
@@ -126,7 +126,7 @@ fn next_turn(
     requires config { IsConfig rules.now.space ils }
     requires event { event < 2 ^ 59 }
     requires within { compared ≤ rules.now.budget }
-    ensures { (purpose : Pending) (e : ℕ) → IfOk result (λ u. upcoming_seen purpose e u ≡ turn_next (setup_of rules.now) compared turns ils event) }
+    ensures { (purpose : Pending) (e : ℕ) → IfOk result (λ u. upcoming_seen purpose e u ≡ NextComparison.next_turn (setup_of rules.now) compared turns ils event) }
 {
     if turns == 0 {
         return Ok(Upcoming::End { event });
@@ -171,7 +171,7 @@ fn next_after(
     requires config { IsConfig rules.now.space found }
     requires event { event < 2 ^ 59 }
     requires within { compared ≤ rules.now.budget }
-    ensures { (purpose : Pending) (e : ℕ) → IfOk result (λ u. upcoming_seen purpose e u ≡ after_next (setup_of rules.now) compared after found event) }
+    ensures { (purpose : Pending) (e : ℕ) → IfOk result (λ u. upcoming_seen purpose e u ≡ NextComparison.next_after (setup_of rules.now) compared after found event) }
 {
     match after {
         After::First => next_turn(alloc, rules, compared, rules.budget + 1, found, event),
@@ -193,7 +193,7 @@ fn improving(
     requires config { IsConfig rules.now.space current }
     requires event { event < 2 ^ 59 }
     requires within { compared ≤ rules.now.budget }
-    ensures { (purpose : Pending) (e : ℕ) → IfOk result (λ u. upcoming_seen purpose e u ≡ among_next after (after_next (setup_of rules.now) compared after) left current neighbours event) }
+    ensures { (purpose : Pending) (e : ℕ) → IfOk result (λ u. upcoming_seen purpose e u ≡ NextComparison.next_among after (NextComparison.next_after (setup_of rules.now) compared after) left current neighbours event) }
 {
     match first_among(after, left, current, neighbours)? {
         Among::Compared {
@@ -223,7 +223,7 @@ fn next_tried(
     requires config { IsConfig rules.now.space current }
     requires event { event < 2 ^ 58 }
     requires within { compared ≤ rules.now.budget }
-    ensures { (purpose : Pending) (e : ℕ) → IfOk result (λ u. upcoming_seen purpose e u ≡ tried_next (setup_of rules.now) compared more current event) }
+    ensures { (purpose : Pending) (e : ℕ) → IfOk result (λ u. upcoming_seen purpose e u ≡ NextComparison.next_tried (setup_of rules.now) compared more current event) }
 {
     if more == 0 {
         let around = neighbours_in_order(alloc, rules, &current, event)?;
@@ -266,7 +266,7 @@ fn next_won(
     requires config { IsConfig rules.now.space winner.now }
     requires event { event < 2 ^ 58 }
     requires within { compared ≤ rules.now.budget }
-    ensures { (purpose : Pending) (e : ℕ) → IfOk result (λ u. upcoming_seen purpose e u ≡ among_next after.now (after_next (setup_of rules.now) compared after.now) left winner.now (ordered (setup_of rules.now) winner.now event) (event + 1)) }
+    ensures { (purpose : Pending) (e : ℕ) → IfOk result (λ u. upcoming_seen purpose e u ≡ NextComparison.next_among after.now (NextComparison.next_after (setup_of rules.now) compared after.now) left winner.now (NextComparison.neighbours_in_order (setup_of rules.now) winner.now event) (event + 1)) }
 {
     let around = neighbours_in_order(alloc, rules, winner, event)?;
     let (after, current) = (after.copy()?, winner.copy()?);
@@ -294,7 +294,7 @@ fn next_restarted(
     requires config { IsConfig rules.now.space best.now }
     requires event { event < 2 ^ 58 }
     requires within { compared ≤ rules.now.budget }
-    ensures { (purpose : Pending) (e : ℕ) → IfOk result (λ u. upcoming_seen purpose e u ≡ restarted (setup_of rules.now) compared more best.now event) }
+    ensures { (purpose : Pending) (e : ℕ) → IfOk result (λ u. upcoming_seen purpose e u ≡ NextComparison.next_restarted (setup_of rules.now) compared more best.now event) }
 {
     if restarts(rules, event) {
         let anew = random_config(alloc, rules, event + 1)?;
@@ -317,7 +317,7 @@ fn next_along(
     requires config { IsConfig rules.now.space current.now }
     requires event { event < 2 ^ 59 }
     requires within { compared ≤ rules.now.budget }
-    ensures { (neighbour : Settings) → IfOk result (λ u. upcoming_seen (Pending.Improving after.now left current.now neighbour rest.now) event u ≡ among_next after.now (after_next (setup_of rules.now) compared after.now) left current.now rest.now event) }
+    ensures { (neighbour : Settings) → IfOk result (λ u. upcoming_seen (Pending.Improving after.now left current.now neighbour rest.now) event u ≡ NextComparison.next_among after.now (NextComparison.next_after (setup_of rules.now) compared after.now) left current.now rest.now event) }
 {
     let Some(neighbour) = rest.first() else {
         let (after, found) = (after.copy()?, current.copy()?);
@@ -350,7 +350,7 @@ pub(crate) fn next(
     requires allowed { IsPendingAllowed (IsConfig rules.now.space) pending.now }
     requires event { event < 2 ^ 57 }
     requires within { compared ≤ rules.now.budget }
-    ensures { IfOk result (λ u. upcoming_seen pending.now event u ≡ next_of (setup_of rules.now) compared pending.now won event) }
+    ensures { IfOk result (λ u. upcoming_seen pending.now event u ≡ NextComparison.next (setup_of rules.now) compared pending.now won event) }
 {
     match pending {
         Pending::Opening => {

@@ -1,10 +1,10 @@
 use Rattle.std.proofs.Common.{rules, ◌≡◌, true, false, sym, ap, ◌∙◌}
 use Rattle.ils_face.specs.Setups.{setup_of}
 use Rattle.ils_frame.specs.declared.pending.Pending.TheVariants.{Opening}
-use Rattle.ils_frame.specs.Comparing.{is_asking}
-use Rattle.ils_frame.specs.Nexts.{next}
+use Rattle.ils_frame.specs.Comparers.{is_asking}
+use Rattle.ils_frame.specs.NextComparison.{next}
 use Rattle.ils_frame.specs.Machine.{machine_of, begin}
-use Rattle.ils_frame.specs.Answering.{opens-asking, opens-next}
+use Rattle.ils_frame.proofs.OneMoreReply.{opens-asking, opens-next}
 use Rattle.ils_frame.proofs.beginning.set_out.Goals as goal
 
 pub returns-then-eq : goal.returns-then-eq

@@ -3,11 +3,12 @@ use Rattle.std.proofs.lemmas.Result.{IfOk-weaker}
 use Rattle.uncapped.specs.Setup.{Setup}
 use Rattle.param_space.specs.Space.{defaults}
 use Rattle.ils_face.specs.Rules.{Rules}
-use Rattle.ils_face.specs.Setups.{SetupOf, setup_of, setup_of-numbers}
+use Rattle.ils_face.proofs.Setups.{SetupOf, setup_of-numbers}
+use Rattle.ils_face.specs.Setups.{setup_of}
 use Rattle.ils_frame.specs.declared.pending.Pending.{Pending}
 use Rattle.ils_frame.specs.declared.pending.Pending.TheVariants.{Improving}
-use Rattle.ils_frame.specs.Nexts.{next, next_tried}
-use Rattle.ils_frame.specs.Upcoming.{upcoming_seen}
+use Rattle.ils_frame.specs.NextComparison.{next, next_tried}
+use Rattle.ils_frame.specs.UpcomingComparison.{upcoming_seen}
 use Rattle.ils_frame.proofs.upcoming.next.Goals as goal
 
 pub returns-in_ok-start-in-Opening : goal.returns-in_ok-start-in-Opening

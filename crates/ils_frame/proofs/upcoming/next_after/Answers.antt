@@ -1,8 +1,9 @@
 use Rattle.std.proofs.Common.{suc, ◌≡◌, ◌+◌, ◌∙◌, arith, ap, sym}
 use Rattle.std.proofs.lemmas.Result.{IfOk-weaker}
 use Rattle.ils_face.specs.Rules.{Rules}
-use Rattle.ils_face.specs.Setups.{SetupOf, setup_of, setup_of-numbers}
-use Rattle.ils_frame.specs.Nexts.{next_after, next_turn}
+use Rattle.ils_face.proofs.Setups.{SetupOf, setup_of-numbers}
+use Rattle.ils_face.specs.Setups.{setup_of}
+use Rattle.ils_frame.specs.NextComparison.{next_after, next_turn}
 use Rattle.ils_frame.proofs.upcoming.next_after.Goals as goal
 
 pub returns-in-First : goal.returns-in-First

@@ -2,7 +2,7 @@ use Rattle.std.proofs.Common.{ℕ, ◌+◌, ◌∙◌, Bool, if◌then◌else◌
 use Rattle.std.proofs.lemmas.Result.{IfOk-weaker}
 use Rattle.uncapped.specs.Setup.{Setup}
 use Rattle.ils_face.specs.Setups.{setup_of}
-use Rattle.ils_frame.specs.Nexts.{Next, next_turn}
+use Rattle.ils_frame.specs.NextComparison.{Next, next_turn}
 use Rattle.ils_frame.proofs.upcoming.next_restarted.Goals as goal
 
 pub returns-then-restarts : goal.returns-then-restarts

@@ -2,10 +2,11 @@ use Rattle.std.proofs.Common.{ℕ, suc, ◌≡◌, ◌+◌, ◌-◌, ◌∙◌, 
 use Rattle.std.proofs.lemmas.Result.{IfOk-weaker}
 use Rattle.uncapped.specs.Procedure.{Settings}
 use Rattle.ils_face.specs.Rules.{Rules}
-use Rattle.ils_face.specs.Setups.{SetupOf, setup_of, setup_of-numbers}
+use Rattle.ils_face.proofs.Setups.{SetupOf, setup_of-numbers}
+use Rattle.ils_face.specs.Setups.{setup_of}
 use Rattle.ils_frame.specs.declared.pending.After.TheVariants.{First}
 use Rattle.ils_frame.specs.declared.pending.Pending.TheVariants.{Trying}
-use Rattle.ils_frame.specs.Nexts.{Compare, among, next_after, next_tried}
+use Rattle.ils_frame.specs.NextComparison.{Compare, next_among, next_after, next_tried}
 use Rattle.ils_frame.proofs.upcoming.next_tried.Goals as goal
 
 pub returns-then-more-eq0 : goal.returns-then-more-eq0
@@ -15,8 +16,8 @@ returns-then-more-eq0 c = λ purpose e.
     let left : c.rules.inside.budget - c.args.compared ≡ (setup_of now).budget - c.args.compared = omega (arith, same.budget, ap (λ (r : Rules). r.budget) c.rules.view_is) in
     IfOk-weaker c.improving.result _ _
     (λ u h. h
-    ∙ ap (λ n. among First (next_after (setup_of now) c.args.compared First) n c.args.current c.in_ok-around.around (c.args.event + 1)) left
-    ∙ ap (λ a. among First (next_after (setup_of now) c.args.compared First) ((setup_of now).budget - c.args.compared) c.args.current a (c.args.event + 1)) c.in_ok-around.ensures
+    ∙ ap (λ n. next_among First (next_after (setup_of now) c.args.compared First) n c.args.current c.in_ok-around.around (c.args.event + 1)) left
+    ∙ ap (λ a. next_among First (next_after (setup_of now) c.args.compared First) ((setup_of now).budget - c.args.compared) c.args.current a (c.args.event + 1)) c.in_ok-around.ensures
     ∙ sym (ap (λ n. next_tried (setup_of now) c.args.compared n c.args.current c.args.event) c.if-more-eq0.true))
     (c.improving.ensures purpose e)
 

@@ -4,9 +4,9 @@ use Rattle.ils_face.specs.Rules.{Rules}
 use Rattle.ils_face.specs.Setups.{setup_of}
 use Rattle.ils_frame.specs.declared.pending.After.TheVariants.{Turn}
 use Rattle.ils_frame.specs.declared.upcoming.Among.TheVariants.{Compared, Spent, Over}
-use Rattle.ils_frame.specs.Nexts.{next_after}
-use Rattle.ils_frame.specs.Upcoming.{among_of, upcoming_seen}
-use Rattle.ils_frame.proofs.Turning.{turn_made, over_after}
+use Rattle.ils_frame.specs.NextComparison.{next_after}
+use Rattle.ils_frame.specs.UpcomingComparison.{among_of, upcoming_seen}
+use Rattle.ils_frame.proofs.UpcomingLemmas.{turn_made, over_after}
 use Rattle.ils_frame.proofs.upcoming.next_turn.Goals as goal
 
 pub returns-in-Compared : goal.returns-in-Compared

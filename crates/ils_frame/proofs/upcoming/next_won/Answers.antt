@@ -2,7 +2,7 @@ use Rattle.std.proofs.Common.{ℕ, ◌+◌, ◌∙◌, ap}
 use Rattle.std.proofs.lemmas.Result.{IfOk-weaker}
 use Rattle.uncapped.specs.Setup.{Setup}
 use Rattle.ils_face.specs.Setups.{setup_of}
-use Rattle.ils_frame.specs.Nexts.{among, next_after}
+use Rattle.ils_frame.specs.NextComparison.{next_among, next_after}
 use Rattle.ils_frame.proofs.upcoming.next_won.Goals as goal
 
 pub returns : goal.returns
@@ -12,7 +12,7 @@ returns c = λ purpose e.
     let event : ℕ = c.args.event + 1 in
     IfOk-weaker c.improving.result _ _
     (λ u h. h
-    ∙ ap (λ a. among a (next_after setup m a) c.args.left c.in_ok-current.current c.in_ok-around.around event) c.in_ok-after.ensures
-    ∙ ap (λ θ. among c.args.after.now (next_after setup m c.args.after.now) c.args.left θ c.in_ok-around.around event) c.in_ok-current.ensures
-    ∙ ap (λ xs. among c.args.after.now (next_after setup m c.args.after.now) c.args.left c.args.winner.now xs event) c.in_ok-around.ensures)
+    ∙ ap (λ a. next_among a (next_after setup m a) c.args.left c.in_ok-current.current c.in_ok-around.around event) c.in_ok-after.ensures
+    ∙ ap (λ θ. next_among c.args.after.now (next_after setup m c.args.after.now) c.args.left θ c.in_ok-around.around event) c.in_ok-current.ensures
+    ∙ ap (λ xs. next_among c.args.after.now (next_after setup m c.args.after.now) c.args.left c.args.winner.now xs event) c.in_ok-around.ensures)
     (c.improving.ensures purpose e)

@@ -3,11 +3,11 @@ use Rattle.ils_face.specs.declared.asks.Reply.{Reply}
 use Rattle.ils_face.specs.Replies.{Fits, ask_for}
 use Rattle.ils_face.specs.Rules.{Rules}
 use Rattle.ils_face.specs.Setups.{setup_of}
-use Rattle.ils_face.specs.Shown.{AreFitting}
-use Rattle.ils_frame.specs.Comparing.{question_in}
-use Rattle.ils_frame.specs.Nexts.{next}
-use Rattle.ils_frame.specs.Machine.{machine_of, begin}
-use Rattle.ils_frame.specs.Answering.{can-answer, compared-kept, shown_after, one-more, asks-on, begins-next, fitting-more}
+use Rattle.ils_face.specs.Views.{AreFitting}
+use Rattle.ils_frame.specs.Comparers.{question_in}
+use Rattle.ils_frame.specs.NextComparison.{next}
+use Rattle.ils_frame.specs.Machine.{machine_of, begin, shown_after}
+use Rattle.ils_frame.proofs.OneMoreReply.{can-answer, compared-kept, one-more, asks-on, begins-next, fitting-more}
 use Rattle.ils_frame.proofs.ils.IlsSearch.answer.Goals.{in-None+in_ok-answer-in-None, in-Some+in_ok-upcoming-in-Some+in_ok-answer-in-Some}
 use Rattle.ils_frame.proofs.ils.IlsSearch.answer.Goals as goal
 

@@ -7,35 +7,20 @@ use Rattle.ils_frame.specs.declared.pending.After.{After}
 use Rattle.ils_frame.specs.declared.pending.After.TheVariants.{First, Turn}
 use Rattle.ils_frame.specs.declared.pending.Pending.{Pending}
 use Rattle.ils_frame.specs.declared.pending.Pending.TheVariants.{Opening, Trying, Improving, Returning}
-use Rattle.ils_frame.specs.Nexts.{Next, Compare, Finish, Reached, ordered, stepped, perturbed, among, returned, next_far, next_turn, next_after, next_tried, next}
+use Rattle.ils_frame.specs.NextComparison.{Next, Compare, Finish, Reached, neighbours_in_order, random_step, perturbation, next_among, next_return, next_far, next_turn, next_after, next_tried, next}
+use Rattle.ils_frame.specs.AllowedPending.{AreAllowed, IsAfterAllowed, IsPendingAllowed}
 
 module _ (allowed : Settings → Type 0) where
-  -- each of the configurations is allowed
-  abbrev pub AreAllowed : List Settings → Type 0
-  AreAllowed [] = Unit {0}
-  AreAllowed (θ ∷ rest) = allowed θ × AreAllowed rest
-
   -- what is drawn is allowed
   pub record DrawsAllowed (setup : Setup) : Type 0 where
     pub start : allowed setup.start
-    pub around : (e : ℕ) (θ : Settings) → allowed θ → AreAllowed (setup.in_order e (setup.neighbours θ))
+    pub around : (e : ℕ) (θ : Settings) → allowed θ → AreAllowed allowed (setup.in_order e (setup.neighbours θ))
     pub one : (e : ℕ) (θ : Settings) → allowed θ → IfSome (setup.one_of e (setup.neighbours θ)) allowed
     pub random : (e : ℕ) → allowed (setup.random e)
 
-  abbrev pub IsAfterAllowed : After → Type 0
-  IsAfterAllowed First = Unit {0}
-  IsAfterAllowed (Turn more ils) = allowed ils
-
-  -- all that is kept for the next comparisons is allowed
-  abbrev pub IsPendingAllowed : Pending → Type 0
-  IsPendingAllowed Opening = Unit {0}
-  IsPendingAllowed (Trying more θ current) = allowed θ × allowed current
-  IsPendingAllowed (Improving after left θ φ rest) = IsAfterAllowed after × allowed θ × allowed φ × AreAllowed rest
-  IsPendingAllowed (Returning more θ ils) = allowed θ × allowed ils
-
   -- the next comparison is of allowed configurations
   abbrev pub IsNextAllowed : Next → Type 0
-  IsNextAllowed (Compare purpose θ φ e) = IsPendingAllowed purpose × allowed θ × allowed φ
+  IsNextAllowed (Compare purpose θ φ e) = IsPendingAllowed allowed purpose × allowed θ × allowed φ
   IsNextAllowed (Finish e) = Unit {0}
 
   chosen : (b : Bool) (θ φ : Settings) → allowed θ → allowed φ → allowed (if b then θ else φ)
@@ -43,20 +28,20 @@ module _ (allowed : Settings → Type 0) where
   chosen false θ φ s t = t
 
   module _ (setup : Setup) (draws : DrawsAllowed setup) where
-    pub stepped-allowed : (θ : Settings) (e : ℕ) → allowed θ → allowed (stepped setup θ e)
-    stepped-allowed θ e a = stays (setup.one_of e (setup.neighbours θ)) (draws.one e θ a)
+    pub random_step-allowed : (θ : Settings) (e : ℕ) → allowed θ → allowed (random_step setup θ e)
+    random_step-allowed θ e a = stays (setup.one_of e (setup.neighbours θ)) (draws.one e θ a)
       where
         stays : (o : Option Settings) → IfSome o allowed → allowed (or_stay θ o)
         stays None h = a
         stays (Some φ) h = h
 
-    pub perturbed-allowed : (n : ℕ) (θ : Settings) (e : ℕ) → allowed θ → allowed (perturbed setup n θ e).config
-    unfolding perturbed
-    perturbed-allowed zero θ e a = a
-    perturbed-allowed (suc n) θ e a = perturbed-allowed n (stepped setup θ e) (e + 1) (stepped-allowed θ e a)
+    pub perturbation-allowed : (n : ℕ) (θ : Settings) (e : ℕ) → allowed θ → allowed (perturbation setup n θ e).config
+    unfolding perturbation
+    perturbation-allowed zero θ e a = a
+    perturbation-allowed (suc n) θ e a = perturbation-allowed n (random_step setup θ e) (e + 1) (random_step-allowed θ e a)
 
-    among-allowed : (after : After) (done : Settings → ℕ → Next) → IsAfterAllowed after → ((θ : Settings) (e : ℕ) → allowed θ → IsNextAllowed (done θ e))
-        → (left : ℕ) (θ : Settings) (around : List Settings) (e : ℕ) → allowed θ → AreAllowed around → IsNextAllowed (among after done left θ around e)
+    among-allowed : (after : After) (done : Settings → ℕ → Next) → IsAfterAllowed allowed after → ((θ : Settings) (e : ℕ) → allowed θ → IsNextAllowed (done θ e))
+        → (left : ℕ) (θ : Settings) (around : List Settings) (e : ℕ) → allowed θ → AreAllowed allowed around → IsNextAllowed (next_among after done left θ around e)
     among-allowed after done n d zero θ [] e a h = d θ e a
     among-allowed after done n d (suc left) θ [] e a h = d θ e a
     among-allowed after done n d zero θ (φ ∷ rest) e a h = tt
@@ -64,23 +49,23 @@ module _ (allowed : Settings → Type 0) where
 
     turn-allowed : (m n : ℕ) (ils : Settings) (e : ℕ) → allowed ils → IsNextAllowed (next_turn setup m n ils e)
     turn-allowed m zero ils e a = tt
-    turn-allowed m (suc more) ils e a = far (perturbed setup setup.strength ils e) (perturbed-allowed setup.strength ils e a)
+    turn-allowed m (suc more) ils e a = far (perturbation setup setup.strength ils e) (perturbation-allowed setup.strength ils e a)
       where
         far : (p : Reached) → allowed p.config → IsNextAllowed (next_far setup m more ils p)
-        far p h = among-allowed (Turn more ils) (returned more ils) a (λ θ e b. ((b, a), b, a)) (setup.budget - m) p.config (ordered setup p.config p.event) (p.event + 1) h (draws.around p.event p.config h)
+        far p h = among-allowed (Turn more ils) (next_return more ils) a (λ θ e b. ((b, a), b, a)) (setup.budget - m) p.config (neighbours_in_order setup p.config p.event) (p.event + 1) h (draws.around p.event p.config h)
 
-    after-allowed : (m : ℕ) (after : After) → IsAfterAllowed after → (θ : Settings) (e : ℕ) → allowed θ → IsNextAllowed (next_after setup m after θ e)
+    after-allowed : (m : ℕ) (after : After) → IsAfterAllowed allowed after → (θ : Settings) (e : ℕ) → allowed θ → IsNextAllowed (next_after setup m after θ e)
     after-allowed m First n θ e a = turn-allowed m (suc setup.budget) θ e a
     after-allowed m (Turn more ils) n θ e a = ((a, n), a, n)
 
     tried-allowed : (m n : ℕ) (current : Settings) (e : ℕ) → allowed current → IsNextAllowed (next_tried setup m n current e)
-    tried-allowed m zero current e a = among-allowed First (next_after setup m First) tt (after-allowed m First tt) (setup.budget - m) current (ordered setup current e) (e + 1) a (draws.around e current a)
+    tried-allowed m zero current e a = among-allowed First (next_after setup m First) tt (after-allowed m First tt) (setup.budget - m) current (neighbours_in_order setup current e) (e + 1) a (draws.around e current a)
     tried-allowed m (suc n) current e a = ((draws.random e, a), draws.random e, a)
 
-    pub next-allowed : (m : ℕ) (purpose : Pending) (won : Bool) (e : ℕ) → IsPendingAllowed purpose → IsNextAllowed (next setup m purpose won e)
+    pub next-allowed : (m : ℕ) (purpose : Pending) (won : Bool) (e : ℕ) → IsPendingAllowed allowed purpose → IsNextAllowed (next setup m purpose won e)
     next-allowed m Opening won e n = tried-allowed m setup.initial setup.start e draws.start
     next-allowed m (Trying more θ current) won e n = tried-allowed m more (if won then θ else current) e (chosen won θ current n.0 n.1)
-    next-allowed m (Improving after left θ φ rest) true e n = among-allowed after (next_after setup m after) n.0 (after-allowed m after n.0) left φ (ordered setup φ e) (e + 1) n.2 (draws.around e φ n.2)
+    next-allowed m (Improving after left θ φ rest) true e n = among-allowed after (next_after setup m after) n.0 (after-allowed m after n.0) left φ (neighbours_in_order setup φ e) (e + 1) n.2 (draws.around e φ n.2)
     next-allowed m (Improving after left θ φ rest) false e n = among-allowed after (next_after setup m after) n.0 (after-allowed m after n.0) left θ rest e n.1 n.3
     next-allowed m (Returning more θ ils) won e n = at_coin (setup.coin e)
       where

@@ -6,7 +6,7 @@ use Rattle.uncapped.specs.Evaluation.{after_ask}
 use Rattle.uncapped.specs.Uncapped.{at_first, last_of}
 use Rattle.ils_face.specs.declared.asks.Reply.{Reply}
 use Rattle.ils_face.specs.declared.asks.Reply.TheVariants.{Exact}
-use Rattle.ils_face.specs.Replies.{Fits, asking, up_to, cost_asked}
+use Rattle.ils_face.specs.Replies.{Fits, ask_of, reply_up_to, cost_asked}
 use Rattle.ils_frame.specs.declared.pending.Stage.{Stage}
 use Rattle.ils_frame.specs.declared.pending.Stage.TheVariants as stage
 
@@ -90,7 +90,7 @@ pub record InRange (max_runs : ℕ) (allowed : Settings → Type 0) (q : Questio
   pub within : q.places ≤ max_runs
 
 -- what a comparer promises whatever fitting replies come
-pub record IsSteady {S : Type 0} (parts : Parts S) (fit : S → Type 0) (max_runs : ℕ) (allowed : Settings → Type 0) (start : Settings) (first : S) : Type 0 where
+pub record IsSteadyComparer {S : Type 0} (parts : Parts S) (fit : S → Type 0) (max_runs : ℕ) (allowed : Settings → Type 0) (start : Settings) (first : S) : Type 0 where
   pub opened : fit first
   pub few : parts.left first ≤ 8 * max_runs + 16
   pub nothing_yet : parts.last first ≡ record { compared = 0; runs = 0; sum = 0; config = start }
@@ -99,19 +99,19 @@ pub record IsSteady {S : Type 0} (parts : Parts S) (fit : S → Type 0) (max_run
   pub all_entries : (c : S) → fit c → All (λ e. allowed e.config) (parts.entries c)
   pub ready_first : (c : S) → fit c → parts.phase c ≡ Ready → (parts.last c).compared ≡ 0
   pub decided_later : (c : S) (b : Bool) → fit c → parts.phase c ≡ Decided b → 1 ≤ (parts.last c).compared
-  pub answered : (c : S) (q : Question) (r : Reply) → fit c → parts.phase c ≡ Asking q → Fits (asking q.config q.places q.bound) r → Answered parts fit c q r
+  pub answered : (c : S) (q : Question) (r : Reply) → fit c → parts.phase c ≡ Asking q → Fits (ask_of q.config q.places q.bound) r → Answered parts fit c q r
   pub begins : (c : S) (θ φ : Settings) (m : ℕ) → fit c → question_in (parts.phase c) ≡ None → 1 ≤ m → allowed θ → allowed φ → Begun parts fit max_runs c (parts.begun c θ φ m) m
 
 -- ---- with the replies of total costs
 
 -- entries that are added by the reply to the ask of this number, from 1
-abbrev pub numbered : ℕ → List Incumbent → List Addition
-numbered n new = map (λ e. record { asks_before = n; entry = e }) new
+abbrev pub additions_after : ℕ → List Incumbent → List Addition
+additions_after n new = map (λ e. record { asks_before = n; entry = e }) new
 
 -- the procedure's state after an answer: one more ask, and the entries that it adds
 pub record Advanced (s t : PlainState) (q : Question) (added : List Incumbent) : Type 0 where
   pub asks : t.asks ≡ s.asks ++ q ∷ []
-  pub entries : t.entries ≡ s.entries ++ numbered (length s.asks + 1) added
+  pub entries : t.entries ≡ s.entries ++ additions_after (length s.asks + 1) added
   pub event : t.event ≡ s.event
 
 -- the procedure's state after a begin: nothing was asked, drawn or added
@@ -134,14 +134,14 @@ pub record Starts {S : Type 0} (parts : Parts S) (stands : S → PlainState → 
 
 -- the state that the comparer stands for before anything is answered
 abbrev pub opened_state : {S : Type 0} → Parts S → Setup → S → PlainState
-opened_state parts setup first = record (at_first setup) { entries = numbered 0 (parts.entries first) }
+opened_state parts setup first = record (at_first setup) { entries = additions_after 0 (parts.entries first) }
 
 -- what a comparer promises with the replies of total costs: it does what the procedure does
 pub record Keeps {S : Type 0} (parts : Parts S) (fit : S → Type 0) (stands : S → PlainState → Type 0) (coming : S → Procedure Bool) (better : Settings → Settings → Procedure Bool) (opening : Procedure (Unit {0})) (setup : Setup) (sums : Sums) (first : S) : Type 0 where
   pub opened : stands first (opened_state parts setup first)
   pub opens : coming first (opened_state parts setup first) ≡ (opening >>= λ _. give false) (at_first setup)
   pub redrawn : (c : S) (s : PlainState) (e : ℕ) → stands c s → stands c (record s { event = e })
-  pub answered : (c : S) (s : PlainState) (q : Question) (x : ℕ) → fit c → stands c s → parts.phase c ≡ Asking q → cost_asked sums q ≡ Some x → GoesOn parts stands coming c s q (up_to x q.bound)
+  pub answered : (c : S) (s : PlainState) (q : Question) (x : ℕ) → fit c → stands c s → parts.phase c ≡ Asking q → cost_asked sums q ≡ Some x → GoesOn parts stands coming c s q (reply_up_to x q.bound)
   pub aborts : (c : S) (s : PlainState) (q : Question) → fit c → stands c s → parts.phase c ≡ Asking q → cost_asked sums q ≡ None → coming c s ≡ Ends (after_ask q.config q.places q.bound s) Aborted
   pub begins : (c : S) (s : PlainState) (θ φ : Settings) (m : ℕ) → fit c → stands c s → question_in (parts.phase c) ≡ None → Starts parts stands coming better c θ φ m s
   pub ended : (c : S) (s : PlainState) (b : Bool) → decision_in (parts.phase c) ≡ Some b → coming c s ≡ Goes s b

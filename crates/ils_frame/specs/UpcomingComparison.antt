@@ -8,7 +8,7 @@ use Rattle.ils_frame.specs.declared.upcoming.Among.{Among}
 use Rattle.ils_frame.specs.declared.upcoming.Among.TheVariants.{Compared, Spent, Over}
 use Rattle.ils_frame.specs.declared.upcoming.Upcoming.{Upcoming}
 use Rattle.ils_frame.specs.declared.upcoming.Upcoming.TheVariants.{Along, Begin, End}
-use Rattle.ils_frame.specs.Nexts.{Next, Compare, Finish}
+use Rattle.ils_frame.specs.NextComparison.{Next, Compare, Finish}
 
 -- the first of these neighbours, where there is one and a comparison is left for it
 abbrev pub among_of : After → ℕ → Settings → List Settings → Among
@@ -16,22 +16,16 @@ among_of after left θ [] = Over after θ
 among_of after zero θ (φ ∷ rest) = Spent
 among_of after (suc left) θ (φ ∷ rest) = Compared (Improving after left θ φ rest) φ θ
 
--- the same as the next comparison
-abbrev pub among_seen : (After → Settings → ℕ → Next) → ℕ → Among → Next
-among_seen done e (Compared purpose first second) = Compare purpose first second e
-among_seen done e Spent = Finish e
-among_seen done e (Over after θ) = done after θ e
-
 -- the next neighbour of the same list is tried
-abbrev pub advanced : Pending → Pending
-advanced Opening = Opening
-advanced (Trying more θ current) = Trying more θ current
-advanced (Improving after left θ φ []) = Improving after left θ φ []
-advanced (Improving after left θ φ (ψ ∷ rest)) = Improving after (left - 1) θ ψ rest
-advanced (Returning more θ ils) = Returning more θ ils
+abbrev pub pending_along : Pending → Pending
+pending_along Opening = Opening
+pending_along (Trying more θ current) = Trying more θ current
+pending_along (Improving after left θ φ []) = Improving after left θ φ []
+pending_along (Improving after left θ φ (ψ ∷ rest)) = Improving after (left - 1) θ ψ rest
+pending_along (Returning more θ ils) = Returning more θ ils
 
 -- what is upcoming as the next comparison
 abbrev pub upcoming_seen : Pending → ℕ → Upcoming → Next
-upcoming_seen purpose e (Along first second) = Compare (advanced purpose) first second e
+upcoming_seen purpose e (Along first second) = Compare (pending_along purpose) first second e
 upcoming_seen purpose e (Begin next first second event) = Compare next first second event
 upcoming_seen purpose e (End event) = Finish event

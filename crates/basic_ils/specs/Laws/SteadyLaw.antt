@@ -3,14 +3,14 @@ use Rattle.std.proofs.Common.{◌≡◌, ℕ, ◌≤◌, ◌<◌, ◌⊎◌, inl
 use Rattle.std.proofs.lemmas.List.Elements.{All-append, All-push}
 use Rattle.std.proofs.Math.Nat.{le_refl}
 use Rattle.param_space.specs.Space.{defaults}
-use Rattle.param_space.specs.Soundness.{default_is_config}
+use Rattle.param_space.proofs.Soundness.{default_is_config}
 use Rattle.param_space.specs.Configurations.{IsConfig}
 use Rattle.uncapped.specs.Procedure.{Settings, Question, Incumbent}
 use Rattle.ils_face.specs.Rules.{Rules, AreRules}
 use Rattle.ils_face.specs.declared.asks.Reply.{Reply}
 use Rattle.ils_face.specs.declared.asks.Reply.TheVariants.{Exact, Exceeds}
-use Rattle.ils_frame.specs.Comparing.{Phase, Ready, Asking, Decided, question_in, SameIncumbent, NewIncumbent, Answered, Begun, InRange, IsSteady}
-use Rattle.basic_ils.specs.State.{Place, Opening, Opened, Second, First, Compared, State, phase_at, place_after, evaluated, is_renewed, entry, entry_where, added_at, newest, left_at, basic, opened, IsPlaceFit, AreAllowed, IsFit}
+use Rattle.ils_frame.specs.Comparers.{Phase, Ready, Asking, Decided, question_in, SameIncumbent, NewIncumbent, Answered, Begun, InRange, IsSteadyComparer}
+use Rattle.basic_ils.specs.State.{Place, Opening, Opened, Second, First, Compared, State, phase_at, place_after, evaluated_config, is_renewed, entry, entry_where, added_at, last_after, left_at, basic_parts, first_state, IsPlaceFit, AreEntriesAllowed, IsFit}
 
 -- ---- questions
 
@@ -21,44 +21,44 @@ at_question phase P h q e = subst (λ p. IfSome (question_in p) P) e h
 -- ---- entries
 
 module _ (allowed : Settings → Type 0) where
-  no_entries : AreAllowed allowed []
+  no_entries : AreEntriesAllowed allowed []
   no_entries = λ k d h. absurd (omega (arith, h))
 
-  one_entry : (e : Incumbent) → allowed e.config → AreAllowed allowed (e ∷ [])
+  one_entry : (e : Incumbent) → allowed e.config → AreEntriesAllowed allowed (e ∷ [])
   one_entry e t = All-push (λ (e : Incumbent). allowed e.config) [] e no_entries t
 
-  entry_allowed : (b : Bool) (e : Incumbent) → allowed e.config → AreAllowed allowed (entry_where b e)
+  entry_allowed : (b : Bool) (e : Incumbent) → allowed e.config → AreEntriesAllowed allowed (entry_where b e)
   entry_allowed true e t = one_entry e t
   entry_allowed false e t = no_entries
 
-  newest_allowed : (b : Bool) (last e : Incumbent) → allowed last.config → allowed e.config → allowed (newest last (entry_where b e)).config
+  newest_allowed : (b : Bool) (last e : Incumbent) → allowed last.config → allowed e.config → allowed (last_after last (entry_where b e)).config
   newest_allowed true last e s t = t
   newest_allowed false last e s t = s
 
-  evaluated_allowed : (compared : ℕ) (incumbent : Settings) (place : Place) → allowed incumbent → IsPlaceFit allowed compared place → allowed (evaluated incumbent place)
+  evaluated_allowed : (compared : ℕ) (incumbent : Settings) (place : Place) → allowed incumbent → IsPlaceFit allowed compared place → allowed (evaluated_config incumbent place)
   evaluated_allowed compared incumbent Opening s f = s
   evaluated_allowed compared incumbent Opened s f = s
   evaluated_allowed compared incumbent (Second first second) s f = f.2
   evaluated_allowed compared incumbent (First first bound) s f = f.1
   evaluated_allowed compared incumbent (Compared won) s f = s
 
-newest_compared : (b : Bool) (last e : Incumbent) → e.compared ≡ last.compared → (newest last (entry_where b e)).compared ≡ last.compared
+newest_compared : (b : Bool) (last e : Incumbent) → e.compared ≡ last.compared → (last_after last (entry_where b e)).compared ≡ last.compared
 newest_compared true last e s = s
 newest_compared false last e s = refl
 
 -- ---- a reply
 
 module _ (n : ℕ) (allowed : Settings → Type 0) where
-  after_compared : (last : Incumbent) (place : Place) (r : Reply) → (newest last (added_at n last place r)).compared ≡ last.compared
-  after_compared last place (Exact x) = newest_compared (is_renewed last place x.0) last (entry n last (evaluated last.config place) x.0) refl
+  after_compared : (last : Incumbent) (place : Place) (r : Reply) → (last_after last (added_at n last place r)).compared ≡ last.compared
+  after_compared last place (Exact x) = newest_compared (is_renewed last place x.0) last (entry n last (evaluated_config last.config place) x.0) refl
   after_compared last place Exceeds = refl
 
-  after_allowed : (last : Incumbent) (place : Place) (r : Reply) → allowed last.config → IsPlaceFit allowed last.compared place → allowed (newest last (added_at n last place r)).config
-  after_allowed last place (Exact x) s f = newest_allowed allowed (is_renewed last place x.0) last (entry n last (evaluated last.config place) x.0) s (evaluated_allowed allowed last.compared last.config place s f)
+  after_allowed : (last : Incumbent) (place : Place) (r : Reply) → allowed last.config → IsPlaceFit allowed last.compared place → allowed (last_after last (added_at n last place r)).config
+  after_allowed last place (Exact x) s f = newest_allowed allowed (is_renewed last place x.0) last (entry n last (evaluated_config last.config place) x.0) s (evaluated_allowed allowed last.compared last.config place s f)
   after_allowed last place Exceeds s f = s
 
-  added_allowed : (last : Incumbent) (place : Place) (r : Reply) → allowed last.config → IsPlaceFit allowed last.compared place → AreAllowed allowed (added_at n last place r)
-  added_allowed last place (Exact x) s f = entry_allowed allowed (is_renewed last place x.0) (entry n last (evaluated last.config place) x.0) (evaluated_allowed allowed last.compared last.config place s f)
+  added_allowed : (last : Incumbent) (place : Place) (r : Reply) → allowed last.config → IsPlaceFit allowed last.compared place → AreEntriesAllowed allowed (added_at n last place r)
+  added_allowed last place (Exact x) s f = entry_allowed allowed (is_renewed last place x.0) (entry n last (evaluated_config last.config place) x.0) (evaluated_allowed allowed last.compared last.config place s f)
   added_allowed last place Exceeds s f = no_entries allowed
 
   place_fit : (compared : ℕ) (place : Place) (r : Reply) → IsPlaceFit allowed compared place → IsPlaceFit allowed compared (place_after place r)
@@ -73,15 +73,15 @@ module _ (n : ℕ) (allowed : Settings → Type 0) where
   same : (last : Incumbent) → SameIncumbent last last
   same last = record { config = refl; runs = refl; sum = refl }
 
-  renewed : (b : Bool) (last : Incumbent) (q : Question) (x : ℕ) (e : Incumbent) → NewIncumbent q (Exact (record { 0 = x })) e → SameIncumbent last (newest last (entry_where b e)) ⊎ NewIncumbent q (Exact (record { 0 = x })) (newest last (entry_where b e))
+  renewed : (b : Bool) (last : Incumbent) (q : Question) (x : ℕ) (e : Incumbent) → NewIncumbent q (Exact (record { 0 = x })) e → SameIncumbent last (last_after last (entry_where b e)) ⊎ NewIncumbent q (Exact (record { 0 = x })) (last_after last (entry_where b e))
   renewed true last q x e h = inr h
   renewed false last q x e h = inl (same last)
 
   abbrev Earned : Incumbent → Place → Question → Type 0
-  Earned last place q = (r : Reply) → SameIncumbent last (newest last (added_at n last place r)) ⊎ NewIncumbent q r (newest last (added_at n last place r))
+  Earned last place q = (r : Reply) → SameIncumbent last (last_after last (added_at n last place r)) ⊎ NewIncumbent q r (last_after last (added_at n last place r))
 
-  earned_by : (last : Incumbent) (place : Place) (q : Question) → evaluated last.config place ≡ q.config → n ≡ q.places → Earned last place q
-  earned_by last place q c p (Exact x) = renewed (is_renewed last place x.0) last q x.0 (entry n last (evaluated last.config place) x.0) (record { config = c; runs = p; cost = refl })
+  earned_by : (last : Incumbent) (place : Place) (q : Question) → evaluated_config last.config place ≡ q.config → n ≡ q.places → Earned last place q
+  earned_by last place q c p (Exact x) = renewed (is_renewed last place x.0) last q x.0 (entry n last (evaluated_config last.config place) x.0) (record { config = c; runs = p; cost = refl })
   earned_by last place q c p Exceeds = inl (same last)
 
   earned : (last : Incumbent) (place : Place) → IfSome (question_in (phase_at n last.config place)) (Earned last place)
@@ -131,7 +131,7 @@ module _ (n : ℕ) (allowed : Settings → Type 0) where
 -- ---- the law
 
 module _ (n : ℕ) (allowed : Settings → Type 0) where
-  fit_after : (c : State) (r : Reply) → IsFit n allowed c → IsFit n allowed (basic.after c r)
+  fit_after : (c : State) (r : Reply) → IsFit n allowed c → IsFit n allowed (basic_parts.after c r)
   fit_after c r f = record {
     runs = f.runs;
     some = f.some;
@@ -140,16 +140,16 @@ module _ (n : ℕ) (allowed : Settings → Type 0) where
     entries = All-append (λ (e : Incumbent). allowed e.config) c.entries (added_at c.max_runs c.last c.place r) f.entries (added_allowed c.max_runs allowed c.last c.place r f.incumbent f.place);
   }
 
-  answered : (c : State) (q : Question) (r : Reply) → IsFit n allowed c → basic.phase c ≡ Asking q → Answered basic (IsFit n allowed) c q r
+  answered : (c : State) (q : Question) (r : Reply) → IsFit n allowed c → basic_parts.phase c ≡ Asking q → Answered basic_parts (IsFit n allowed) c q r
   answered c q r f e = record {
     stays_fit = fit_after c r f;
-    nearer = at_question (basic.phase c) (λ q. left_at (place_after c.place r) < left_at c.place) (nearer c.max_runs allowed c.last.config c.place r) q e;
+    nearer = at_question (basic_parts.phase c) (λ q. left_at (place_after c.place r) < left_at c.place) (nearer c.max_runs allowed c.last.config c.place r) q e;
     grown = refl;
     compared = after_compared c.max_runs allowed c.last c.place r;
-    incumbent = at_question (basic.phase c) (Earned c.max_runs allowed c.last c.place) (earned c.max_runs allowed c.last c.place) q e r;
+    incumbent = at_question (basic_parts.phase c) (Earned c.max_runs allowed c.last c.place) (earned c.max_runs allowed c.last c.place) q e r;
   }
 
-  begins : (c : State) (θ φ : Settings) (m : ℕ) → IsFit n allowed c → 1 ≤ m → allowed θ → allowed φ → Begun basic (IsFit n allowed) n c (basic.begun c θ φ m) m
+  begins : (c : State) (θ φ : Settings) (m : ℕ) → IsFit n allowed c → 1 ≤ m → allowed θ → allowed φ → Begun basic_parts (IsFit n allowed) n c (basic_parts.begun c θ φ m) m
   begins c θ φ m f some s t = record {
     stays_fit = record { runs = f.runs; some = f.some; incumbent = f.incumbent; place = (some, s, t); entries = f.entries };
     few = omega arith;
@@ -159,14 +159,14 @@ module _ (n : ℕ) (allowed : Settings → Type 0) where
     incumbent = record { config = refl; runs = refl; sum = refl };
   }
 
-  in_range : (c : State) (q : Question) → IsFit n allowed c → basic.phase c ≡ Asking q → InRange n allowed q
+  in_range : (c : State) (q : Question) → IsFit n allowed c → basic_parts.phase c ≡ Asking q → InRange n allowed q
   in_range c q f e =
       let some : 1 ≤ c.max_runs = subst (λ k. 1 ≤ k) (sym f.runs) f.some in
-      subst (λ k. InRange k allowed q) f.runs (at_question (basic.phase c) (InRange c.max_runs allowed) (asked_in_range c.max_runs allowed c.last c.place some f.incumbent f.place) q e)
+      subst (λ k. InRange k allowed q) f.runs (at_question (basic_parts.phase c) (InRange c.max_runs allowed) (asked_in_range c.max_runs allowed c.last c.place some f.incumbent f.place) q e)
 
 -- whatever fitting replies come
 pub basic_steady : (n : ℕ) (allowed : Settings → Type 0) (start : Settings) → 1 ≤ n → allowed start
-    → IsSteady basic (IsFit n allowed) n allowed start (record { max_runs = n; last = record { compared = 0; runs = 0; sum = 0; config = start }; place = Opening; entries = [] })
+    → IsSteadyComparer basic_parts (IsFit n allowed) n allowed start (record { max_runs = n; last = record { compared = 0; runs = 0; sum = 0; config = start }; place = Opening; entries = [] })
 basic_steady n allowed start some s = record {
   opened = record { runs = refl; some = some; incumbent = s; place = refl; entries = no_entries allowed };
   few = omega arith;
@@ -181,5 +181,5 @@ basic_steady n allowed start some s = record {
 }
 
 -- under the rules of a search
-pub rules_steady : (rules : Rules) → AreRules rules → IsSteady basic (IsFit rules.max_runs (IsConfig rules.space)) rules.max_runs (IsConfig rules.space) (defaults rules.space.params) (opened rules)
+pub rules_steady : (rules : Rules) → AreRules rules → IsSteadyComparer basic_parts (IsFit rules.max_runs (IsConfig rules.space)) rules.max_runs (IsConfig rules.space) (defaults rules.space.params) (first_state rules)
 rules_steady rules are = basic_steady rules.max_runs (IsConfig rules.space) (defaults rules.space.params) are.some_run (default_is_config rules.space are.space)

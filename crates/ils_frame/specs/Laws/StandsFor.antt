@@ -1,19 +1,45 @@
 -- A search over any comparer, answered by total costs, stands for a state of the procedure at each step.
-use Rattle.std.proofs.Common.{ℕ, ◌≡◌, ◌+◌, ◌≤◌, Bool, true, false, not, [], ◌∷◌, ◌++◌, length, Some, None, ◌==◌, if◌then◌else◌, refl, sym, ◌∙◌, ap, subst}
+use Rattle.std.proofs.Common.{ℕ, ◌≡◌, ◌+◌, ◌≤◌, Bool, true, false, not, [], ◌∷◌, ◌++◌, length, Option, Some, None, ◌==◌, if◌then◌else◌, refl, sym, ◌∙◌, ap, subst}
 use Rattle.std.proofs.lemmas.Bool.{false≢true}
-use Rattle.uncapped.specs.Procedure.{Settings, Sums, Question, PlainState, Finished, Aborted, Ends, Procedure, goes_on, ◌>>=◌}
+use Rattle.objective.specs.Limits
+use Rattle.uncapped.specs.Procedure.{Settings, Sums, Question, PlainState, Finished, Aborted, Ends, Procedure, goes_on, ◌>>=◌, stop}
 use Rattle.uncapped.specs.Setup.{Setup}
 use Rattle.uncapped.specs.Evaluation.{after_ask}
 use Rattle.uncapped.specs.Searching.{compare}
 use Rattle.ils_face.specs.declared.asks.Reply.{Reply}
-use Rattle.ils_face.specs.Replies.{Fits, asking, up_to, cost_asked}
+use Rattle.ils_face.specs.Replies.{Fits, ask_of, reply_up_to, cost_asked}
 use Rattle.ils_frame.specs.declared.pending.Pending.{Pending}
-use Rattle.ils_frame.specs.Comparing.{Phase, Ready, Asking, Decided, is_asking, question_in, decision_in, Parts, Answered, IsSteady, numbered, GoesOn, Starts, Keeps}
-use Rattle.ils_frame.specs.Nexts.{Next, Compare, Finish, next, following, run_next}
-use Rattle.ils_frame.specs.Nextings.{at_event, nexts}
-use Rattle.ils_frame.specs.Machine.{Machine, begin, settle, answered, begin_state, settle_state, answered_state, search_coming}
-use Rattle.ils_frame.specs.Naming.{DrawsAllowed}
-use Rattle.ils_frame.specs.Fitting.{IsFitting, IsSettled, live, answered-settled}
+use Rattle.ils_frame.specs.Comparers.{Phase, Ready, Asking, Decided, is_asking, question_in, decision_in, Parts, Answered, IsSteadyComparer, additions_after, GoesOn, Starts, Keeps}
+use Rattle.ils_frame.specs.NextComparison.{Next, Compare, Finish, next}
+use Rattle.ils_frame.specs.Laws.NextSteps.{continuation, run_next, at_event, nexts}
+use Rattle.ils_frame.specs.Machine.{Machine, begin, settle, next_machine}
+use Rattle.ils_frame.specs.Laws.AllowedConfigs.{DrawsAllowed}
+use Rattle.ils_frame.specs.Laws.MachineInvariant.{IsFitting, IsSettled, live, next_machine-settled}
+
+module _ {S : Type 0} (parts : Parts S) (setup : Setup) where
+  -- the state when the next comparison begins
+  abbrev pub begin_state : S → Next → PlainState → PlainState
+  begin_state c (Compare purpose θ φ e) s = if (parts.last c).compared == setup.budget
+      then record s { event = e }
+      else parts.started c θ φ ((parts.last c).compared + 1) (record s { event = e })
+  begin_state c (Finish e) s = record s { event = e }
+
+  unfoldable pub settle_state : S → Pending → ℕ → Option Bool → PlainState → PlainState
+  settle_state c purpose e None s = s
+  settle_state c purpose e (Some won) s = begin_state c (next setup (parts.last c).compared purpose won e) s
+
+  -- the state after one more reply
+  abbrev pub answered_state : Machine S → Reply → PlainState → PlainState
+  answered_state f r s = settle_state (parts.after f.comparer r) f.pending f.event (decision_in (parts.phase (parts.after f.comparer r))) (parts.replied f.comparer r s)
+
+  -- what is to come of the search
+  module _ (better : Settings → Settings → Procedure Bool) (coming : S → Procedure Bool) where
+    abbrev pub coming_at : Bool → S → Pending → Procedure (Unit {0})
+    coming_at true c purpose = stop Finished
+    coming_at false c purpose = coming c >>= continuation setup better purpose
+
+    abbrev pub search_coming : Machine S → Procedure (Unit {0})
+    search_coming f = coming_at f.over f.comparer f.pending
 
 -- a comparison that still has its place in the budget
 compares : (setup : Setup) (better : Settings → Settings → Procedure Bool) (θ φ : Settings) (s : PlainState) → (s.compared == setup.budget) ≡ false → compare setup better θ φ s ≡ better θ φ (record s { compared = s.compared + 1 })
@@ -54,31 +80,31 @@ module _ {S : Type 0} (parts : Parts S) (fit : S → Type 0) (stands : S → Pla
       started = keeps.begins c (at_event s e) θ φ ((parts.last c).compared + 1) f (keeps.redrawn c s e h) none
 
       at_either : (over : Bool) → ((parts.last c).compared == setup.budget) ≡ over
-          → (compare setup better θ φ >>= following setup better purpose) (at_event s e) ≡ coming_of (machine over) (moved over)
-      at_either true t = ap (λ a. goes_on a (following setup better purpose)) (compares-not setup better θ φ (at_event s e) (ap (λ n. n == setup.budget) number ∙ t))
-      at_either false t = ap (λ a. goes_on a (following setup better purpose))
+          → (compare setup better θ φ >>= continuation setup better purpose) (at_event s e) ≡ coming_of (machine over) (moved over)
+      at_either true t = ap (λ a. goes_on a (continuation setup better purpose)) (compares-not setup better θ φ (at_event s e) (ap (λ n. n == setup.budget) number ∙ t))
+      at_either false t = ap (λ a. goes_on a (continuation setup better purpose))
           (compares setup better θ φ (at_event s e) (ap (λ n. n == setup.budget) number ∙ t)
           ∙ ap (λ n. better θ φ (record (at_event s e) { compared = n + 1 })) number ∙ started.same)
 
   -- where a comparison was decided, the next one begins
   settles_at : (c : S) (s : PlainState) → fit c → stands c s → (purpose : Pending) (p : Phase) → parts.phase c ≡ p
-      → (coming c >>= following setup better purpose) s ≡ coming_of (settle parts setup c purpose s.event (decision_in p)) (settle_state parts setup c purpose s.event (decision_in p) s)
+      → (coming c >>= continuation setup better purpose) s ≡ coming_of (settle parts setup c purpose s.event (decision_in p)) (settle_state parts setup c purpose s.event (decision_in p) s)
   unfolding settle settle_state
   settles_at c s f h purpose (Asking q) e = refl
   settles_at c s f h purpose Ready e =
-      ap (λ a. goes_on a (following setup better purpose)) (keeps.ended c s false (ap decision_in e))
+      ap (λ a. goes_on a (continuation setup better purpose)) (keeps.ended c s false (ap decision_in e))
       ∙ nexts setup better purpose false s
       ∙ ap (λ m. run_next setup better (next setup m purpose false s.event) s) (same_number c s f h)
       ∙ begins c s f h (ap question_in e) (next setup (parts.last c).compared purpose false s.event)
   settles_at c s f h purpose (Decided b) e =
-      ap (λ a. goes_on a (following setup better purpose)) (keeps.ended c s b (ap decision_in e))
+      ap (λ a. goes_on a (continuation setup better purpose)) (keeps.ended c s b (ap decision_in e))
       ∙ nexts setup better purpose b s
       ∙ ap (λ m. run_next setup better (next setup m purpose b s.event) s) (same_number c s f h)
       ∙ begins c s f h (ap question_in e) (next setup (parts.last c).compared purpose b s.event)
 
   pub settles : (c : S) (s : PlainState) → fit c → stands c s → (purpose : Pending) (e : ℕ) → s.event ≡ e
-      → (coming c >>= following setup better purpose) s ≡ coming_of (settle parts setup c purpose e (decision_in (parts.phase c))) (settle_state parts setup c purpose e (decision_in (parts.phase c)) s)
-  settles c s f h purpose e k = subst (λ n. (coming c >>= following setup better purpose) s ≡ coming_of (settle parts setup c purpose n (decision_in (parts.phase c))) (settle_state parts setup c purpose n (decision_in (parts.phase c)) s)) k
+      → (coming c >>= continuation setup better purpose) s ≡ coming_of (settle parts setup c purpose e (decision_in (parts.phase c))) (settle_state parts setup c purpose e (decision_in (parts.phase c)) s)
+  settles c s f h purpose e k = subst (λ n. (coming c >>= continuation setup better purpose) s ≡ coming_of (settle parts setup c purpose n (decision_in (parts.phase c))) (settle_state parts setup c purpose n (decision_in (parts.phase c)) s)) k
       (settles_at c s f h purpose (parts.phase c) refl)
 
   -- what a settled machine stands for: nothing was asked or added, and the next draw has its number
@@ -118,8 +144,8 @@ module _ {S : Type 0} (parts : Parts S) (fit : S → Type 0) (stands : S → Pla
       → StandsFor s (settle parts setup c purpose e (decision_in (parts.phase c))) (settle_state parts setup c purpose e (decision_in (parts.phase c)) s)
   settle_stands c s f h purpose e k = settle_stands_at c s f h purpose e k (parts.phase c) refl
 
-  module _ (allowed : Settings → Type 0) (draws : DrawsAllowed allowed setup) (few_steps : setup.strength ≤ 100) (steady : IsSteady parts fit setup.max_runs allowed setup.start first)
-      (fitting : (q : Question) (x : ℕ) → Fits (asking q.config q.places q.bound) (up_to x q.bound)) where
+  module _ (allowed : Settings → Type 0) (draws : DrawsAllowed allowed setup) (few_steps : setup.strength ≤ Limits.max_strength) (steady : IsSteadyComparer parts fit setup.max_runs allowed setup.start first)
+      (fitting : (q : Question) (x : ℕ) → Fits (ask_of q.config q.places q.bound) (reply_up_to x q.bound)) where
     -- a machine that was reached by the replies of these total costs, and the state that it stands for
     pub record IsSound (f : Machine S) (s : PlainState) : Type 0 where
       pub stays_fitting : IsFitting parts fit setup allowed draws few_steps first steady f
@@ -128,27 +154,27 @@ module _ {S : Type 0} (parts : Parts S) (fit : S → Type 0) (stands : S → Pla
 
     -- one known cost: what is to come stays the same, with one more ask and the entries that it adds
     pub record Turn (f : Machine S) (s : PlainState) (q : Question) (r : Reply) : Type 0 where
-      pub sound : IsSound (answered parts setup f r) (answered_state parts setup f r s)
-      pub same : coming_of f s ≡ coming_of (answered parts setup f r) (answered_state parts setup f r s)
+      pub sound : IsSound (next_machine parts setup f r) (answered_state parts setup f r s)
+      pub same : coming_of f s ≡ coming_of (next_machine parts setup f r) (answered_state parts setup f r s)
       pub asks : (answered_state parts setup f r s).asks ≡ s.asks ++ q ∷ []
-      pub entries : (answered_state parts setup f r s).entries ≡ s.entries ++ numbered (length s.asks + 1) (parts.added f.comparer r)
-      pub grown : parts.entries (answered parts setup f r).comparer ≡ parts.entries f.comparer ++ parts.added f.comparer r
+      pub entries : (answered_state parts setup f r s).entries ≡ s.entries ++ additions_after (length s.asks + 1) (parts.added f.comparer r)
+      pub grown : parts.entries (next_machine parts setup f r).comparer ≡ parts.entries f.comparer ++ parts.added f.comparer r
 
-    live_coming : (f : Machine S) (s : PlainState) → f.over ≡ false → coming_of f s ≡ (coming f.comparer >>= following setup better f.pending) s
+    live_coming : (f : Machine S) (s : PlainState) → f.over ≡ false → coming_of f s ≡ (coming f.comparer >>= continuation setup better f.pending) s
     live_coming f s o = rw o refl
 
-    pub turns : (f : Machine S) (s : PlainState) (q : Question) (x : ℕ) → IsSound f s → parts.phase f.comparer ≡ Asking q → cost_asked sums q ≡ Some x → Turn f s q (up_to x q.bound)
+    pub turns : (f : Machine S) (s : PlainState) (q : Question) (x : ℕ) → IsSound f s → parts.phase f.comparer ≡ Asking q → cost_asked sums q ≡ Some x → Turn f s q (reply_up_to x q.bound)
     turns f s q x k e known =
-        let r : Reply = up_to x q.bound in
+        let r : Reply = reply_up_to x q.bound in
         let a : Answered parts fit f.comparer q r = steady.answered f.comparer q r k.stays_fitting.stays_fit e (fitting q x) in
         let g : GoesOn parts stands coming f.comparer s q r = keeps.answered f.comparer s q x k.stays_fitting.stays_fit k.stays e known in
         let o : f.over ≡ false = live parts fit setup allowed draws few_steps first steady f q k.stays_fitting e in
         let event : (parts.replied f.comparer r s).event ≡ f.event = g.advanced.event ∙ k.event o in
-        let t : IsSettled parts fit setup allowed draws few_steps first steady (parts.after f.comparer r) (answered parts setup f r) = answered-settled parts fit setup allowed draws few_steps first steady f q r k.stays_fitting e a in
-        let u : StandsFor (parts.replied f.comparer r s) (answered parts setup f r) (answered_state parts setup f r s) = settle_stands (parts.after f.comparer r) (parts.replied f.comparer r s) a.stays_fit g.stays f.pending f.event event in
+        let t : IsSettled parts fit setup allowed draws few_steps first steady (parts.after f.comparer r) (next_machine parts setup f r) = next_machine-settled parts fit setup allowed draws few_steps first steady f q r k.stays_fitting e a in
+        let u : StandsFor (parts.replied f.comparer r s) (next_machine parts setup f r) (answered_state parts setup f r s) = settle_stands (parts.after f.comparer r) (parts.replied f.comparer r s) a.stays_fit g.stays f.pending f.event event in
         record {
           sound = record { stays_fitting = t.fitting; stays = u.stays; event = u.event };
-          same = live_coming f s o ∙ ap (λ a. goes_on a (following setup better f.pending)) g.same
+          same = live_coming f s o ∙ ap (λ a. goes_on a (continuation setup better f.pending)) g.same
               ∙ settles (parts.after f.comparer r) (parts.replied f.comparer r s) a.stays_fit g.stays f.pending f.event event;
           asks = u.asks ∙ g.advanced.asks;
           entries = u.entries ∙ g.advanced.entries;
@@ -159,7 +185,7 @@ module _ {S : Type 0} (parts : Parts S) (fit : S → Type 0) (stands : S → Pla
     pub aborts : (f : Machine S) (s : PlainState) (q : Question) → IsSound f s → parts.phase f.comparer ≡ Asking q → cost_asked sums q ≡ None → coming_of f s ≡ Ends (after_ask q.config q.places q.bound s) Aborted
     aborts f s q k e unknown =
         live_coming f s (live parts fit setup allowed draws few_steps first steady f q k.stays_fitting e)
-        ∙ ap (λ a. goes_on a (following setup better f.pending)) (keeps.aborts f.comparer s q k.stays_fitting.stays_fit k.stays e unknown)
+        ∙ ap (λ a. goes_on a (continuation setup better f.pending)) (keeps.aborts f.comparer s q k.stays_fitting.stays_fit k.stays e unknown)
 
     over_at : (o : Bool) (p : Phase) → is_asking p ≡ not o → is_asking p ≡ false → o ≡ true
     over_at true p e z = refl

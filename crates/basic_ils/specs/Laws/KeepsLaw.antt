@@ -13,36 +13,37 @@ use Rattle.uncapped.specs.Setup.{Setup}
 use Rattle.uncapped.specs.Evaluation.{after_ask, after_entry, measure, evaluate, better_basic}
 use Rattle.uncapped.specs.Uncapped.{opening_basic, last_of}
 use Rattle.ils_face.specs.Rules.{Rules, AreRules}
-use Rattle.ils_face.specs.Setups.{setup_of, setup_of-numbers, SetupOf}
-use Rattle.ils_face.specs.Shown.{sums_under}
-use Rattle.ils_face.specs.Replies.{up_to, cost_asked}
+use Rattle.ils_face.specs.Setups.{setup_of}
+use Rattle.ils_face.proofs.Setups.{setup_of-numbers, SetupOf}
+use Rattle.ils_face.specs.Follows.{sums_under}
+use Rattle.ils_face.specs.Replies.{reply_up_to, cost_asked}
 use Rattle.ils_face.specs.declared.asks.Reply.{Reply}
 use Rattle.ils_face.specs.declared.asks.Reply.TheVariants.{Exact, Exceeds}
-use Rattle.ils_frame.specs.Comparing.{question_in, decision_in, Advanced, GoesOn, Keeps}
-use Rattle.basic_ils.specs.State.{Place, Opening, Opened, Second, First, Compared, State, phase_at, is_better, entry, entry_where, newest, measured, won_where, coming_at, coming, basic, opened, IsFit, IsFresh, IsKnown, Stands, StandsAt}
-use Rattle.basic_ils.specs.Steady.{at_question}
-use Rattle.basic_ils.specs.Evaluations.{counted_most, counted_top, counted_itself, evaluate-known, evaluate-unknown}
+use Rattle.ils_frame.specs.Comparers.{question_in, decision_in, Advanced, GoesOn, Keeps}
+use Rattle.basic_ils.specs.State.{Place, Opening, Opened, Second, First, Compared, State, phase_at, is_better, entry, entry_where, last_after, after_evaluation, win_where, coming_at, coming_in, basic_parts, first_state, IsFit, IsFresh, IsKnown, Stands, StandsAt}
+use Rattle.basic_ils.specs.Laws.SteadyLaw.{at_question}
+use Rattle.basic_ils.specs.Laws.Evaluations.{counts_after-most, counts_after-top, counts_after-itself, evaluate-known, evaluate-unknown}
 
 -- ---- one evaluation
 
 module _ (n : ℕ) (sums : Sums) (last : Incumbent) (s : PlainState) where
   -- an evaluation in a comparison, with a known cost
   evaluated-known : (θ : Settings) (bound : Option ℕ) (x : ℕ) → s.incumbent ≡ last.config → IsKnown n sums last s → sums θ n ≡ Some x
-      → evaluate sums θ n bound s ≡ Goes (won_where (is_better last θ x) θ n x (measured θ n bound s)) x
+      → evaluate sums θ n bound s ≡ Goes (win_where (is_better last θ x) θ n x (after_evaluation θ n bound s)) x
   evaluated-known θ bound x i k e = rw (← i) (evaluate-known sums θ n bound s x last.sum k.top (k.most θ) k.sum e)
 
   -- it leaves the incumbent evaluated on n places
   known_after : (b : Bool) (θ : Settings) (bound : Option ℕ) (x : ℕ) → IsKnown n sums last s → sums θ n ≡ Some x
-      → IsKnown n sums (newest last (entry_where b (entry n last θ x))) (won_where b θ n x (measured θ n bound s))
-  known_after true θ bound x k e = record { most = λ φ. counted_most s.counts θ n φ (k.most θ) (k.most φ); top = counted_itself s.counts θ n (k.most θ); runs = refl; sum = e }
-  known_after false θ bound x k e = record { most = λ φ. counted_most s.counts θ n φ (k.most θ) (k.most φ); top = counted_top s.counts θ n s.incumbent (k.most θ) k.top; runs = k.runs; sum = k.sum }
+      → IsKnown n sums (last_after last (entry_where b (entry n last θ x))) (win_where b θ n x (after_evaluation θ n bound s))
+  known_after true θ bound x k e = record { most = λ φ. counts_after-most s.counts θ n φ (k.most θ) (k.most φ); top = counts_after-itself s.counts θ n (k.most θ); runs = refl; sum = e }
+  known_after false θ bound x k e = record { most = λ φ. counts_after-most s.counts θ n φ (k.most θ) (k.most φ); top = counts_after-top s.counts θ n s.incumbent (k.most θ) k.top; runs = k.runs; sum = k.sum }
 
   -- the incumbent costs no more than what was evaluated
   at_most_after : (θ : Settings) (x : ℕ) → s.incumbent ≡ last.config → IsKnown n sums last s → sums θ n ≡ Some x
-      → (newest last (entry_where (is_better last θ x) (entry n last θ x))).sum ≤ x
+      → (last_after last (entry_where (is_better last θ x) (entry n last θ x))).sum ≤ x
   at_most_after θ x i k e = at_either (is_better last θ x) refl
     where
-      at_either : (b : Bool) → is_better last θ x ≡ b → (newest last (entry_where b (entry n last θ x))).sum ≤ x
+      at_either : (b : Bool) → is_better last θ x ≡ b → (last_after last (entry_where b (entry n last θ x))).sum ≤ x
       at_either true w = le_refl x
       at_either false w = elim (and_cases (not (bytes_eq θ last.config)) (nat_lt x last.sum) w) [
         | inl t ↦ (let same : θ ≡ last.config = (bytes_eq-Decides θ last.config).0 (not-false (bytes_eq θ last.config) t) in
@@ -60,24 +61,24 @@ not_better last θ bound x h t =
 
 module _ (b : Bool) (θ : Settings) (n x : ℕ) (bound : Option ℕ) (last : Incumbent) (s : PlainState) where
   -- one more ask, and the entry of a new incumbent
-  advanced_by : s.compared ≡ last.compared → Advanced s (won_where b θ n x (measured θ n bound s)) (record { config = θ; places = n; bound = bound }) (entry_where b (entry n last θ x))
+  advanced_by : s.compared ≡ last.compared → Advanced s (win_where b θ n x (after_evaluation θ n bound s)) (record { config = θ; places = n; bound = bound }) (entry_where b (entry n last θ x))
   advanced_by c = at_either b
     where
-      at_either : (b : Bool) → Advanced s (won_where b θ n x (measured θ n bound s)) (record { config = θ; places = n; bound = bound }) (entry_where b (entry n last θ x))
+      at_either : (b : Bool) → Advanced s (win_where b θ n x (after_evaluation θ n bound s)) (record { config = θ; places = n; bound = bound }) (entry_where b (entry n last θ x))
       at_either true = record { asks = refl; entries = rw (c, length_push) refl; event = refl }
       at_either false = record { asks = refl; entries = sym (append-nil s.entries); event = refl }
 
-  incumbent_after : s.incumbent ≡ last.config → (won_where b θ n x (measured θ n bound s)).incumbent ≡ (newest last (entry_where b (entry n last θ x))).config
+  incumbent_after : s.incumbent ≡ last.config → (win_where b θ n x (after_evaluation θ n bound s)).incumbent ≡ (last_after last (entry_where b (entry n last θ x))).config
   incumbent_after i = at_either b
     where
-      at_either : (b : Bool) → (won_where b θ n x (measured θ n bound s)).incumbent ≡ (newest last (entry_where b (entry n last θ x))).config
+      at_either : (b : Bool) → (win_where b θ n x (after_evaluation θ n bound s)).incumbent ≡ (last_after last (entry_where b (entry n last θ x))).config
       at_either true = refl
       at_either false = i
 
-  compared_after : s.compared ≡ last.compared → (won_where b θ n x (measured θ n bound s)).compared ≡ (newest last (entry_where b (entry n last θ x))).compared
+  compared_after : s.compared ≡ last.compared → (win_where b θ n x (after_evaluation θ n bound s)).compared ≡ (last_after last (entry_where b (entry n last θ x))).compared
   compared_after c = at_either b
     where
-      at_either : (b : Bool) → (won_where b θ n x (measured θ n bound s)).compared ≡ (newest last (entry_where b (entry n last θ x))).compared
+      at_either : (b : Bool) → (win_where b θ n x (after_evaluation θ n bound s)).compared ≡ (last_after last (entry_where b (entry n last θ x))).compared
       at_either true = c
       at_either false = c
 
@@ -85,17 +86,17 @@ module _ (b : Bool) (θ : Settings) (n x : ℕ) (bound : Option ℕ) (last : Inc
 
 module _ (setup : Setup) (sums : Sums) (n : ℕ) (m : setup.max_runs ≡ n) (last : Incumbent) (s : PlainState) where
   opening_goes : (x : ℕ) → last.config ≡ setup.start → sums last.config n ≡ Some x
-      → coming_at setup sums Opening s ≡ Goes (after_entry last.config n x (measured last.config n None s)) false
+      → coming_at setup sums Opening s ≡ Goes (after_entry last.config n x (after_evaluation last.config n None s)) false
   unfolding opening_basic measure
   opening_goes x c e = rw (← c, m, e) refl
 
   second_goes : (first second : Settings) (x : ℕ) → s.incumbent ≡ last.config → IsKnown n sums last s → sums second n ≡ Some x
-      → coming_at setup sums (Second first second) s ≡ coming_at setup sums (First first x) (won_where (is_better last second x) second n x (measured second n None s))
+      → coming_at setup sums (Second first second) s ≡ coming_at setup sums (First first x) (win_where (is_better last second x) second n x (after_evaluation second n None s))
   unfolding better_basic
   second_goes first second x i k e = rw (m, evaluated-known n sums last s second None x i k e) refl
 
   first_goes : (first : Settings) (bound x : ℕ) (won : Bool) → s.incumbent ≡ last.config → IsKnown n sums last s → sums first n ≡ Some x → nat_le x bound ≡ won
-      → coming_at setup sums (First first bound) s ≡ Goes (won_where (is_better last first x) first n x (measured first n (Some bound) s)) won
+      → coming_at setup sums (First first bound) s ≡ Goes (win_where (is_better last first x) first n x (after_evaluation first n (Some bound) s)) won
   first_goes first bound x won i k e t = rw (m, evaluated-known n sums last s first (Some bound) x i k e, t) refl
 
   opening_aborts : last.config ≡ setup.start → sums last.config n ≡ None → coming_at setup sums Opening s ≡ Ends (after_ask last.config n None s) Aborted
@@ -113,7 +114,7 @@ module _ (setup : Setup) (sums : Sums) (n : ℕ) (m : setup.max_runs ≡ n) (las
 
 module _ (setup : Setup) (sums : Sums) (start : Settings) (b : setup.start ≡ start) where
   abbrev GoesOnBy : State → PlainState → Question → Reply → Type 0
-  GoesOnBy c s q r = GoesOn basic (Stands start sums) (coming setup sums) c s q r
+  GoesOnBy c s q r = GoesOn basic_parts (Stands start sums) (coming_in setup sums) c s q r
 
   module _ (n : ℕ) (m : setup.max_runs ≡ n) (last : Incumbent) (entries : List Incumbent) (s : PlainState) (i : s.incumbent ≡ last.config) (c : s.compared ≡ last.compared) where
     abbrev at_place : Place → State
@@ -128,8 +129,8 @@ module _ (setup : Setup) (sums : Sums) (start : Settings) (b : setup.start ≡ s
             incumbent = i;
             compared = c;
             place = record {
-              most = λ φ. counted_most s.counts last.config n φ (few last.config) (few φ);
-              top = rw i (counted_itself s.counts last.config n (few last.config));
+              most = λ φ. counts_after-most s.counts last.config n φ (few last.config) (few φ);
+              top = rw i (counts_after-itself s.counts last.config n (few last.config));
               runs = refl;
               sum = rw i e;
             };
@@ -164,12 +165,12 @@ module _ (setup : Setup) (sums : Sums) (start : Settings) (b : setup.start ≡ s
     first_replied first bound k h x e false t = record {
       stays = record { incumbent = i; compared = c; place = known_after n sums last s false first (Some bound) x k e };
       same = first_goes setup sums n m last s first bound x false i k e t
-          ∙ ap (λ b. Goes (won_where b first n x (measured first n (Some bound) s)) false) (not_better last first bound x h t);
+          ∙ ap (λ b. Goes (win_where b first n x (after_evaluation first n (Some bound) s)) false) (not_better last first bound x h t);
       advanced = advanced_by false first n x (Some bound) last s c;
     }
 
     abbrev Replied : Place → Question → Type 0
-    Replied place q = (x : ℕ) → cost_asked sums q ≡ Some x → GoesOnBy (at_place place) s q (up_to x q.bound)
+    Replied place q = (x : ℕ) → cost_asked sums q ≡ Some x → GoesOnBy (at_place place) s q (reply_up_to x q.bound)
 
     replied_by : (place : Place) → StandsAt n start sums last place s → IfSome (question_in (phase_at n last.config place)) (Replied place)
     replied_by Opening k = opening_replied k
@@ -238,15 +239,15 @@ ended_at setup sums n incumbent (Compared won) s b e = let t : won ≡ b = cc in
 
 -- with the replies of total costs
 pub basic_keeps : (n : ℕ) (allowed : Settings → Type 0) (start : Settings) (setup : Setup) (sums : Sums) → setup.max_runs ≡ n → setup.start ≡ start → ((θ : Settings) → sums θ 0 ≡ Some 0)
-    → Keeps basic (IsFit n allowed) (Stands start sums) (coming setup sums) (better_basic setup sums) (opening_basic setup sums) setup sums
+    → Keeps basic_parts (IsFit n allowed) (Stands start sums) (coming_in setup sums) (better_basic setup sums) (opening_basic setup sums) setup sums
     (record { max_runs = n; last = record { compared = 0; runs = 0; sum = 0; config = start }; place = Opening; entries = [] })
 basic_keeps n allowed start setup sums m b zero = record {
   opened = record { incumbent = b; compared = refl; place = record { counts = λ φ. refl; config = refl; runs = refl; sum = refl } };
   opens = refl;
   redrawn = λ c s e k. record { incumbent = k.incumbent; compared = k.compared; place = redrawn_at c.max_runs sums start c.last c.place s e k.place };
-  answered = λ c s q x f k a e. at_question (basic.phase c) (Replied setup sums start b c.max_runs (m ∙ sym f.runs) c.last c.entries s k.incumbent k.compared c.place)
+  answered = λ c s q x f k a e. at_question (basic_parts.phase c) (Replied setup sums start b c.max_runs (m ∙ sym f.runs) c.last c.entries s k.incumbent k.compared c.place)
       (replied_by setup sums start b c.max_runs (m ∙ sym f.runs) c.last c.entries s k.incumbent k.compared c.place k.place) q a x e;
-  aborts = λ c s q f k a e. at_question (basic.phase c) (Aborts setup sums start b c.max_runs (m ∙ sym f.runs) c.last c.entries s k.incumbent k.compared c.place)
+  aborts = λ c s q f k a e. at_question (basic_parts.phase c) (Aborts setup sums start b c.max_runs (m ∙ sym f.runs) c.last c.entries s k.incumbent k.compared c.place)
       (aborts_by setup sums start b c.max_runs (m ∙ sym f.runs) c.last c.entries s k.incumbent k.compared c.place k.place) q a e;
   begins = λ c s θ φ j f k none. let h : IsKnown c.max_runs sums c.last s = known_at_rest c.max_runs sums start c.last c.place s none k.place in record {
     stays = record { incumbent = k.incumbent; compared = refl; place = record { most = h.most; top = h.top; runs = h.runs; sum = h.sum } };
@@ -259,7 +260,7 @@ basic_keeps n allowed start setup sums m b zero = record {
 
 -- under the rules of a search, with the replies of a table
 pub rules_keep : (rules : Rules) (T : Table) → AreRules rules
-    → Keeps basic (IsFit rules.max_runs (IsConfig rules.space)) (Stands (defaults rules.space.params) (sums_under rules T)) (coming (setup_of rules) (sums_under rules T)) (better_basic (setup_of rules) (sums_under rules T)) (opening_basic (setup_of rules) (sums_under rules T)) (setup_of rules) (sums_under rules T) (opened rules)
+    → Keeps basic_parts (IsFit rules.max_runs (IsConfig rules.space)) (Stands (defaults rules.space.params) (sums_under rules T)) (coming_in (setup_of rules) (sums_under rules T)) (better_basic (setup_of rules) (sums_under rules T)) (opening_basic (setup_of rules) (sums_under rules T)) (setup_of rules) (sums_under rules T) (first_state rules)
 rules_keep rules T are =
     let s : SetupOf rules (setup_of rules) = setup_of-numbers rules in
     basic_keeps rules.max_runs (IsConfig rules.space) (defaults rules.space.params) (setup_of rules) (sums_under rules T) s.max_runs s.start (λ θ. refl)

@@ -4,8 +4,8 @@ use Rattle.uncapped.specs.Procedure.{Settings}
 use Rattle.ils_face.specs.Rules.{Rules}
 use Rattle.ils_face.specs.Setups.{setup_of}
 use Rattle.ils_frame.specs.declared.pending.Pending.{Pending}
-use Rattle.ils_frame.specs.Comparing.{Parts}
-use Rattle.ils_frame.specs.Nexts.{Compare}
+use Rattle.ils_frame.specs.Comparers.{Parts}
+use Rattle.ils_frame.specs.NextComparison.{Compare}
 use Rattle.ils_frame.specs.Machine.{Machine, begin}
 
 -- a comparison that was begun, or the end of the search

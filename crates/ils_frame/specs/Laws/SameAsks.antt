@@ -3,16 +3,17 @@ use Rattle.std.proofs.Common.{ℕ, zero, suc, ◌≡◌, ◌+◌, ◌≤◌, ◌
 use Rattle.std.proofs.lemmas.Bool.{leb-true, le-leb}
 use Rattle.std.proofs.lemmas.List.{append-nil, map-append}
 use Rattle.std.proofs.lemmas.List.Elements.{filter-append}
+use Rattle.objective.specs.Limits
 use Rattle.uncapped.specs.Procedure.{Settings, Sums, Question, Incumbent, Addition, PlainState, Finished, Aborted, Procedure}
 use Rattle.uncapped.specs.Setup.{Setup}
 use Rattle.uncapped.specs.Uncapped.{Run, run_after, or_nothing}
 use Rattle.ils_face.specs.declared.asks.Reply.{Reply}
-use Rattle.ils_face.specs.Replies.{Fits, asking, up_to, cost_asked, reply_to}
-use Rattle.ils_frame.specs.Comparing.{Phase, Ready, Asking, Decided, is_asking, question_in, Parts, IsSteady, numbered, Keeps}
-use Rattle.ils_frame.specs.Machine.{Machine, answered, after_all, view_of, answered_state, search_coming}
-use Rattle.ils_frame.specs.Naming.{DrawsAllowed}
-use Rattle.ils_frame.specs.Fitting.{Replied, replies, not-asking}
-use Rattle.ils_frame.specs.Standing.{IsSound, Turn, turns, aborts, finishes}
+use Rattle.ils_face.specs.Replies.{Fits, ask_of, reply_up_to, cost_asked, reply_to}
+use Rattle.ils_frame.specs.Comparers.{Phase, Ready, Asking, Decided, is_asking, question_in, Parts, IsSteadyComparer, additions_after, Keeps}
+use Rattle.ils_frame.specs.Machine.{Machine, next_machine, after_all, view_of}
+use Rattle.ils_frame.specs.Laws.StandsFor.{answered_state, search_coming, IsSound, Turn, turns, aborts, finishes}
+use Rattle.ils_frame.specs.Laws.AllowedConfigs.{DrawsAllowed}
+use Rattle.ils_frame.specs.Laws.MachineInvariant.{Replied, replies, not-asking}
 
 -- ---- entries by the number of asks before them
 
@@ -29,11 +30,11 @@ abbrev pub AreLater : ℕ → List Addition → Type 0
 AreLater n [] = Unit {0}
 AreLater n (a ∷ rest) = (n < a.asks_before) × AreLater n rest
 
-pub unnumbered : (n : ℕ) (new : List Incumbent) → map entry_in (numbered n new) ≡ new
+pub unnumbered : (n : ℕ) (new : List Incumbent) → map entry_in (additions_after n new) ≡ new
 unnumbered n [] = refl
 unnumbered n (e ∷ new) = ap (λ es. e ∷ es) (unnumbered n new)
 
-pub before-all : (n k : ℕ) (new : List Incumbent) → n ≤ k → filter (is_before k) (numbered n new) ≡ numbered n new
+pub before-all : (n k : ℕ) (new : List Incumbent) → n ≤ k → filter (is_before k) (additions_after n new) ≡ additions_after n new
 before-all n k [] h = refl
 before-all n k (e ∷ new) h = rw (le-leb n k h) (ap (λ es. record { asks_before = n; entry = e } ∷ es) (before-all n k new h))
 
@@ -45,9 +46,9 @@ before-none n (a ∷ rest) h = at_either (before-none n rest h.1) (nat_le a.asks
     at_either later true e = let w : a.asks_before ≤ n = leb-true a.asks_before n e in let z = h.0 in absurd (omega (arith, w, z))
     at_either later false e = later
 
-later-numbered : (n m : ℕ) (new : List Incumbent) → n < m → AreLater n (numbered m new)
-later-numbered n m [] h = tt
-later-numbered n m (e ∷ new) h = (h, later-numbered n m new h)
+later-additions : (n m : ℕ) (new : List Incumbent) → n < m → AreLater n (additions_after m new)
+later-additions n m [] h = tt
+later-additions n m (e ∷ new) h = (h, later-additions n m new h)
 
 later-less : (n m : ℕ) (late : List Addition) → n ≤ m → AreLater m late → AreLater n late
 later-less n m [] h l = tt
@@ -85,8 +86,8 @@ some_known o x e = ap is_some e
 
 module _ {S : Type 0} (parts : Parts S) (fit : S → Type 0) (stands : S → PlainState → Type 0) (coming : S → Procedure Bool) (better : Settings → Settings → Procedure Bool) (opening : Procedure (Unit {0}))
     (setup : Setup) (sums : Sums) (first : S) (keeps : Keeps parts fit stands coming better opening setup sums first)
-    (allowed : Settings → Type 0) (draws : DrawsAllowed allowed setup) (few_steps : setup.strength ≤ 100) (steady : IsSteady parts fit setup.max_runs allowed setup.start first)
-    (fitting : (q : Question) (x : ℕ) → Fits (asking q.config q.places q.bound) (up_to x q.bound)) where
+    (allowed : Settings → Type 0) (draws : DrawsAllowed allowed setup) (few_steps : setup.strength ≤ Limits.max_strength) (steady : IsSteadyComparer parts fit setup.max_runs allowed setup.start first)
+    (fitting : (q : Question) (x : ℕ) → Fits (ask_of q.config q.places q.bound) (reply_up_to x q.bound)) where
   abbrev Sound : Machine S → PlainState → Type 0
   Sound f s = IsSound parts fit stands coming better opening setup sums first keeps allowed draws few_steps steady fitting f s
 
@@ -146,28 +147,28 @@ module _ {S : Type 0} (parts : Parts S) (fit : S → Type 0) (stands : S → Pla
 
   module _ (f : Machine S) (s : PlainState) (q : Question) (x : ℕ) (e : parts.phase f.comparer ≡ Asking q) (known : cost_asked sums q ≡ Some x) where
     abbrev g : Machine S
-    g = answered parts setup f (up_to x q.bound)
+    g = next_machine parts setup f (reply_up_to x q.bound)
 
     abbrev u : PlainState
-    u = answered_state parts setup f (up_to x q.bound) s
+    u = answered_state parts setup f (reply_up_to x q.bound) s
 
-    replied_so : reply_to sums q ≡ up_to x q.bound
-    replied_so = ap (λ o. up_to (or_nothing o) q.bound) known
+    replied_so : reply_to sums q ≡ reply_up_to x q.bound
+    replied_so = ap (λ o. reply_up_to (or_nothing o) q.bound) known
 
     -- the reply to the first ask leads to the next machine
     on : (rs : List Reply) → after_all parts setup f (reply_to sums q ∷ rs) ≡ after_all parts setup g rs
     unfolding after_all
-    on rs = ap (λ r. after_all parts setup (answered parts setup f r) rs) replied_so
+    on rs = ap (λ r. after_all parts setup (next_machine parts setup f r) rs) replied_so
 
-    goes_on_playing : Turn parts fit stands coming better opening setup sums first keeps allowed draws few_steps steady fitting f s q (up_to x q.bound) → PlaysFrom g u → PlaysFrom f s
+    goes_on_playing : Turn parts fit stands coming better opening setup sums first keeps allowed draws few_steps steady fitting f s q (reply_up_to x q.bound) → PlaysFrom g u → PlaysFrom f s
     unfolding after_all
     goes_on_playing t p = rw t.same (record {
       rest = q ∷ p.rest;
-      late = numbered (length s.asks + 1) new ++ p.late;
+      late = additions_after (length s.asks + 1) new ++ p.late;
       count = suc p.count;
       all_asks = p.all_asks ∙ ap (λ asks. asks ++ p.rest) t.asks ∙ append_assoc s.asks (q ∷ []) p.rest;
-      all_entries = p.all_entries ∙ ap (λ es. es ++ p.late) t.entries ∙ append_assoc s.entries (numbered (length s.asks + 1) new) p.late;
-      later = later-append (length s.asks) (numbered (length s.asks + 1) new) p.late (later-numbered (length s.asks) (length s.asks + 1) new (omega arith))
+      all_entries = p.all_entries ∙ ap (λ es. es ++ p.late) t.entries ∙ append_assoc s.entries (additions_after (length s.asks + 1) new) p.late;
+      later = later-append (length s.asks) (additions_after (length s.asks + 1) new) p.late (later-additions (length s.asks) (length s.asks + 1) new (omega arith))
           (later-less (length s.asks) (length u.asks) p.late (let n = number in omega (arith, n)) p.later);
       shown_asks = asks_on;
       shown_entries = entries_on;
@@ -181,7 +182,7 @@ module _ {S : Type 0} (parts : Parts S) (fit : S → Type 0) (stands : S → Pla
     })
       where
         new : List Incumbent
-        new = parts.added f.comparer (up_to x q.bound)
+        new = parts.added f.comparer (reply_up_to x q.bound)
 
         number : length u.asks ≡ length s.asks + 1
         number = ap length t.asks ∙ length-append s.asks (q ∷ [])
@@ -189,31 +190,31 @@ module _ {S : Type 0} (parts : Parts S) (fit : S → Type 0) (stands : S → Pla
         split : (es : List Incumbent) → parts.entries g.comparer ++ es ≡ parts.entries f.comparer ++ (new ++ es)
         split es = ap (λ old. old ++ es) t.grown ∙ append_assoc (parts.entries f.comparer) new es
 
-        joined : (es : List Incumbent) → parts.entries g.comparer ++ map entry_in p.late ≡ parts.entries f.comparer ++ map entry_in (numbered (length s.asks + 1) new ++ p.late)
-        joined es = split (map entry_in p.late) ∙ ap (λ es. parts.entries f.comparer ++ es) (ap (λ n. n ++ map entry_in p.late) (sym (unnumbered (length s.asks + 1) new)) ∙ sym (map-append entry_in (numbered (length s.asks + 1) new) p.late))
+        joined : (es : List Incumbent) → parts.entries g.comparer ++ map entry_in p.late ≡ parts.entries f.comparer ++ map entry_in (additions_after (length s.asks + 1) new ++ p.late)
+        joined es = split (map entry_in p.late) ∙ ap (λ es. parts.entries f.comparer ++ es) (ap (λ n. n ++ map entry_in p.late) (sym (unnumbered (length s.asks + 1) new)) ∙ sym (map-append entry_in (additions_after (length s.asks + 1) new) p.late))
 
         asks_on : (k : ℕ) → k ≤ suc p.count → question_in (parts.phase (after_all parts setup f (map (reply_to sums) (take k (q ∷ p.rest)))).comparer) ≡ slice_get (q ∷ p.rest) k
         asks_on zero h = ap question_in e
         asks_on (suc k) h = ap (λ m. question_in (parts.phase m.comparer)) (on (map (reply_to sums) (take k p.rest))) ∙ p.shown_asks k (omega (arith, h))
 
         -- those that were just added, and those of the rest that were added before
-        sorted : (k : ℕ) → filter (is_before (length s.asks + suc k)) (numbered (length s.asks + 1) new ++ p.late) ≡ numbered (length s.asks + 1) new ++ filter (is_before (length u.asks + k)) p.late
-        sorted k = filter-append (is_before (length s.asks + suc k)) (numbered (length s.asks + 1) new) p.late
+        sorted : (k : ℕ) → filter (is_before (length s.asks + suc k)) (additions_after (length s.asks + 1) new ++ p.late) ≡ additions_after (length s.asks + 1) new ++ filter (is_before (length u.asks + k)) p.late
+        sorted k = filter-append (is_before (length s.asks + suc k)) (additions_after (length s.asks + 1) new) p.late
             ∙ ap (λ es. es ++ filter (is_before (length s.asks + suc k)) p.late) (before-all (length s.asks + 1) (length s.asks + suc k) new (omega arith))
-            ∙ ap (λ n. numbered (length s.asks + 1) new ++ filter (is_before n) p.late) (let n = number in omega (arith, n))
+            ∙ ap (λ n. additions_after (length s.asks + 1) new ++ filter (is_before n) p.late) (let n = number in omega (arith, n))
 
         entries_on : (k : ℕ) → k ≤ suc p.count → parts.entries (after_all parts setup f (map (reply_to sums) (take k (q ∷ p.rest)))).comparer
-            ≡ parts.entries f.comparer ++ map entry_in (filter (is_before (length s.asks + k)) (numbered (length s.asks + 1) new ++ p.late))
+            ≡ parts.entries f.comparer ++ map entry_in (filter (is_before (length s.asks + k)) (additions_after (length s.asks + 1) new ++ p.late))
         entries_on zero h = sym (append-nil (parts.entries f.comparer))
-            ∙ ap (λ es. parts.entries f.comparer ++ map entry_in es) (sym (ap (λ n. filter (is_before n) (numbered (length s.asks + 1) new ++ p.late)) (omega arith)
-            ∙ before-none (length s.asks) (numbered (length s.asks + 1) new ++ p.late)
-            (later-append (length s.asks) (numbered (length s.asks + 1) new) p.late (later-numbered (length s.asks) (length s.asks + 1) new (omega arith))
+            ∙ ap (λ es. parts.entries f.comparer ++ map entry_in es) (sym (ap (λ n. filter (is_before n) (additions_after (length s.asks + 1) new ++ p.late)) (omega arith)
+            ∙ before-none (length s.asks) (additions_after (length s.asks + 1) new ++ p.late)
+            (later-append (length s.asks) (additions_after (length s.asks + 1) new) p.late (later-additions (length s.asks) (length s.asks + 1) new (omega arith))
             (later-less (length s.asks) (length u.asks) p.late (let n = number in omega (arith, n)) p.later))))
         entries_on (suc k) h = ap (λ m. parts.entries m.comparer) (on (map (reply_to sums) (take k p.rest))) ∙ p.shown_entries k (omega (arith, h))
             ∙ split (map entry_in (filter (is_before (length u.asks + k)) p.late))
             ∙ ap (λ es. parts.entries f.comparer ++ es)
             (ap (λ n. n ++ map entry_in (filter (is_before (length u.asks + k)) p.late)) (sym (unnumbered (length s.asks + 1) new))
-            ∙ sym (map-append entry_in (numbered (length s.asks + 1) new) (filter (is_before (length u.asks + k)) p.late))
+            ∙ sym (map-append entry_in (additions_after (length s.asks + 1) new) (filter (is_before (length u.asks + k)) p.late))
             ∙ ap (map entry_in) (sym (sorted k)))
 
         known_on : (k : ℕ) → k < suc p.count → IfSome (slice_get (q ∷ p.rest) k) (λ q. IsSome (cost_asked sums q))
@@ -233,10 +234,10 @@ module _ {S : Type 0} (parts : Parts S) (fit : S → Type 0) (stands : S → Pla
       at_cost : IH → (q : Question) → parts.phase f.comparer ≡ Asking q → (o : Option ℕ) → cost_asked sums q ≡ o → PlaysFrom f s
       at_cost ih q e None c = stopped f s q k e c
       at_cost ih q e (Some x) c =
-          let t : Turn parts fit stands coming better opening setup sums first keeps allowed draws few_steps steady fitting f s q (up_to x q.bound) = turns parts fit stands coming better opening setup sums first keeps allowed draws few_steps steady fitting f s q x k e c in
-          let n : Replied parts fit setup allowed draws few_steps first steady f q (up_to x q.bound) = replies parts fit setup allowed draws few_steps first steady f q (up_to x q.bound) k.stays_fitting e (fitting q x) in
-          let m : (view_of parts setup (answered parts setup f (up_to x q.bound))).left < (view_of parts setup f).left = n.falls in
-          goes_on_playing f s q x e c t (ih (answered parts setup f (up_to x q.bound)) (answered_state parts setup f (up_to x q.bound) s) t.sound (omega (arith, h, m)))
+          let t : Turn parts fit stands coming better opening setup sums first keeps allowed draws few_steps steady fitting f s q (reply_up_to x q.bound) = turns parts fit stands coming better opening setup sums first keeps allowed draws few_steps steady fitting f s q x k e c in
+          let n : Replied parts fit setup allowed draws few_steps first steady f q (reply_up_to x q.bound) = replies parts fit setup allowed draws few_steps first steady f q (reply_up_to x q.bound) k.stays_fitting e (fitting q x) in
+          let m : (view_of parts setup (next_machine parts setup f (reply_up_to x q.bound))).left < (view_of parts setup f).left = n.falls in
+          goes_on_playing f s q x e c t (ih (next_machine parts setup f (reply_up_to x q.bound)) (answered_state parts setup f (reply_up_to x q.bound) s) t.sound (omega (arith, h, m)))
 
       at_phase : IH → (p : Phase) → parts.phase f.comparer ≡ p → PlaysFrom f s
       at_phase ih Ready e = done f s k (ap is_asking e)

@@ -1,0 +1,135 @@
+-- A search over any comparer follows the procedure.
+use Rattle.std.proofs.Common.{ℕ, suc, ◌≡◌, ◌+◌, ◌≤◌, Bool, true, false, [], ◌++◌, map, filter, length, Option, Some, None, nat_le, if◌then◌else◌, refl, sym, ◌∙◌, ap, subst, arith, take_all}
+use Rattle.std.proofs.lemmas.Bool.{leb-true}
+use Rattle.std.proofs.lemmas.List.{map-append}
+use Rattle.std.proofs.lemmas.List.Elements.{filter-append}
+use Rattle.uncapped.specs.Procedure.{Settings, Sums, Question, PlainState, End, Finished, Aborted, Procedure, goes_on, give}
+use Rattle.uncapped.specs.Setup.{Setup}
+use Rattle.uncapped.specs.Searching.{search_after}
+use Rattle.uncapped.specs.Uncapped.{Run, run_after, at_first}
+use Rattle.ils_face.specs.declared.asks.Reply.TheVariants.{Exact, Exceeds}
+use Rattle.ils_face.specs.Replies.{Fits, ask_of, ask_for, reply_up_to, reply_count, entries_before}
+use Rattle.ils_face.specs.Follows.{Follows, GoesThrough, answer_count, sums_under}
+use Rattle.ils_face.proofs.QuietTables.{quiet-through}
+use Rattle.uncapped.specs.Totals.{quiet}
+use Rattle.ils_frame.specs.declared.pending.Pending.TheVariants.{Opening}
+use Rattle.ils_frame.specs.Comparers.{decision_in, Parts, IsSteadyComparer, additions_after, opened_state, Keeps}
+use Rattle.ils_frame.specs.Laws.NextSteps.{continuation, bind_assoc}
+use Rattle.ils_frame.specs.Machine.{Machine, first_machine, view_of, shown_after}
+use Rattle.ils_frame.specs.Laws.StandsFor.{settle_state, search_coming, StandsFor, settles, settle_stands}
+use Rattle.ils_frame.specs.Laws.AllowedConfigs.{DrawsAllowed}
+use Rattle.ils_frame.specs.Laws.MachineInvariant.{IsSettled, first_machine-settled}
+use Rattle.ils_frame.specs.Laws.SteadyLaw.{shown_from, few-steps, steady-setup}
+use Rattle.ils_frame.specs.Laws.SameAsks.{entry_in, is_before, unnumbered, before-all, Plays, plays}
+use Rattle.objective.specs.Costs.{Table}
+use Rattle.objective.specs.Limits
+use Rattle.param_space.specs.Configurations.{IsConfig}
+use Rattle.param_space.specs.Space.{defaults}
+use Rattle.ils_face.specs.Setups.{setup_of}
+use Rattle.ils_face.specs.Rules.{Rules, AreRules}
+use Rattle.ils_frame.specs.Laws.AllowedDraws.{draws_allowed}
+
+-- a table's reply fits its question
+pub reply_fits : (q : Question) (x : ℕ) → Fits (ask_of q.config q.places q.bound) (reply_up_to x q.bound)
+reply_fits q x = at_either q.bound
+  where
+    at_bound : (b : ℕ) (t : Bool) → nat_le x b ≡ t → Fits (ask_of q.config q.places (Some b)) (if t then Exact (record { 0 = x }) else Exceeds)
+    at_bound b true e = leb-true x b e
+    at_bound b false e = tt
+
+    at_either : (bound : Option ℕ) → Fits (ask_of q.config q.places bound) (reply_up_to x bound)
+    at_either None = tt
+    at_either (Some b) = at_bound b (nat_le x b) refl
+
+-- the number of replies, by how the run ends
+counts : (e : End) (n count : ℕ) → (e ≡ Finished → n ≡ count) → (e ≡ Aborted → n ≡ suc count) → reply_count e n ≡ count
+counts Finished n count f a = f refl
+counts Aborted n count f a = let h : n ≡ suc count = a refl in omega (arith, h)
+
+module _ {S : Type 0} (parts : Parts S) (setup : Setup) (sums : Sums) (first : S) where
+  abbrev f0 : Machine S
+  f0 = first_machine parts setup first
+
+  -- from a state without asks, with the entries of the opened comparer, the run is followed
+  followed : (s : PlainState) (run : Run) → s.asks ≡ [] → s.entries ≡ additions_after 0 (parts.entries first) → parts.entries f0.comparer ≡ parts.entries first → Plays parts setup sums f0 s run
+      → Follows (shown_from parts setup f0) sums run
+  followed s run none some same p = record {
+    asks = λ k h. ap ask_for (rw asks (p.shown_asks k (up h)));
+    entries = λ k h. rw asks (p.shown_entries k (up h)) ∙ sorted k;
+    known = λ k h. rw asks (p.known k (rw (← number) h));
+    finished = λ e. record {
+      entries = rw (asks, take_all (length p.rest) p.rest (omega arith)) ((p.finished e).1) ∙ all;
+      last = rw (asks, take_all (length p.rest) p.rest (omega arith)) ((p.finished e).2);
+    };
+    aborted = λ e. record {
+      unanswered = rw number (let h : length p.rest ≡ suc p.count = (p.aborted e).0 in let a : length run.asks ≡ length p.rest = ap length asks in omega (arith, h, a));
+      unknown = rw (number, asks) ((p.aborted e).1);
+    };
+  }
+    where
+      asks : run.asks ≡ p.rest
+      asks = p.all_asks ∙ ap (λ a. a ++ p.rest) none
+
+      number : answer_count run ≡ p.count
+      number = counts run.end (length run.asks) p.count (λ e. ap length asks ∙ (p.finished e).0) (λ e. ap length asks ∙ (p.aborted e).0)
+
+      up : {k : ℕ} → k ≤ answer_count run → k ≤ p.count
+      up {k} h = subst (λ n. k ≤ n) number h
+
+      all_entries : run.entries ≡ additions_after 0 (parts.entries first) ++ p.late
+      all_entries = p.all_entries ∙ ap (λ es. es ++ p.late) some
+
+      all : parts.entries f0.comparer ++ map entry_in p.late ≡ map entry_in run.entries
+      all = ap (λ es. es ++ map entry_in p.late) same
+          ∙ ap (λ es. es ++ map entry_in p.late) (sym (unnumbered 0 (parts.entries first)))
+          ∙ sym (map-append entry_in (additions_after 0 (parts.entries first)) p.late)
+          ∙ ap (map entry_in) (sym all_entries)
+
+      sorted : (k : ℕ) → parts.entries f0.comparer ++ map entry_in (filter (is_before (length s.asks + k)) p.late) ≡ entries_before run k
+      sorted k = ap (λ es. es ++ map entry_in (filter (is_before (length s.asks + k)) p.late)) same
+          ∙ ap (λ n. parts.entries first ++ map entry_in (filter (is_before n) p.late)) (let n = ap length none in omega (arith, n))
+          ∙ ap (λ es. es ++ map entry_in (filter (is_before k) p.late)) (sym (unnumbered 0 (parts.entries first)))
+          ∙ sym (map-append entry_in (additions_after 0 (parts.entries first)) (filter (is_before k) p.late))
+          ∙ ap (λ es. map entry_in (es ++ filter (is_before k) p.late)) (sym (before-all 0 k (parts.entries first) (omega arith)))
+          ∙ ap (map entry_in) (sym (filter-append (is_before k) (additions_after 0 (parts.entries first)) p.late))
+          ∙ ap (λ es. map entry_in (filter (is_before k) es)) (sym all_entries)
+
+module _ {S : Type 0} (parts : Parts S) (fit : S → Type 0) (stands : S → PlainState → Type 0) (coming : S → Procedure Bool) (better : Settings → Settings → Procedure Bool) (opening : Procedure (Unit {0}))
+    (setup : Setup) (sums : Sums) (first : S) (keeps : Keeps parts fit stands coming better opening setup sums first)
+    (allowed : Settings → Type 0) (draws : DrawsAllowed allowed setup) (few_steps : setup.strength ≤ Limits.max_strength) (steady : IsSteadyComparer parts fit setup.max_runs allowed setup.start first) where
+  abbrev s0 : PlainState
+  s0 = settle_state parts setup first Opening 0 (decision_in (parts.phase first)) (opened_state parts setup first)
+
+  same_run : search_after setup better opening (at_first setup) ≡ search_coming parts setup better coming (first_machine parts setup first) s0
+  unfolding search_after
+  same_run =
+      sym (bind_assoc (opening (at_first setup)) (λ _. give false) (continuation setup better Opening))
+      ∙ ap (λ a. goes_on a (continuation setup better Opening)) (sym keeps.opens)
+      ∙ settles parts fit stands coming better opening setup sums first keeps first (opened_state parts setup first) steady.opened keeps.opened Opening 0 refl
+
+  pub search_follows : Follows (shown_from parts setup (first_machine parts setup first)) sums (run_after sums (search_after setup better opening (at_first setup)))
+  search_follows =
+      let t : StandsFor parts fit stands coming better opening setup sums first keeps (opened_state parts setup first) (first_machine parts setup first) s0 = settle_stands parts fit stands coming better opening setup sums first keeps first (opened_state parts setup first) steady.opened keeps.opened Opening 0 refl in
+      let o : IsSettled parts fit setup allowed draws few_steps first steady first (first_machine parts setup first) = first_machine-settled parts fit setup allowed draws few_steps first steady in
+      rw same_run (followed parts setup sums first s0 (run_after sums (search_coming parts setup better coming (first_machine parts setup first) s0)) t.asks t.entries o.same_entries
+      (plays parts fit stands coming better opening setup sums first keeps allowed draws few_steps steady reply_fits (suc (view_of parts setup (first_machine parts setup first)).left) (first_machine parts setup first) s0
+      (record { stays_fitting = o.fitting; stays = t.stays; event = t.event }) (omega arith)))
+
+-- ---- by the rules of a search
+
+module _ {S : Type 0} (parts : Parts S) (first : S) (rules : Rules) where
+  module _ (are : AreRules rules) (fit : S → Type 0) (steady : IsSteadyComparer parts fit rules.max_runs (IsConfig rules.space) (defaults rules.space.params) first) where
+    -- given the replies of a table, it shows what the procedure does
+    pub laws_follow : (stands : S → PlainState → Type 0) (coming : S → Procedure Bool) (better : Settings → Settings → Procedure Bool) (opening : Procedure (Unit {0})) (T : Table)
+        → Keeps parts fit stands coming better opening (setup_of rules) (sums_under rules T) first
+        → Follows (shown_after parts first rules) (sums_under rules T) (run_after (sums_under rules T) (search_after (setup_of rules) better opening (at_first (setup_of rules))))
+    laws_follow stands coming better opening T keeps =
+        search_follows parts fit stands coming better opening (setup_of rules) (sums_under rules T) first keeps (IsConfig rules.space) (draws_allowed rules are) (few-steps parts first rules are) (steady-setup parts first rules are fit steady)
+
+    -- over a table whose aborts count as unsolved it goes through all asks to the end
+    pub laws_finish : (stands : S → PlainState → Type 0) (coming : S → Procedure Bool) (better : Settings → Settings → Procedure Bool) (opening : Procedure (Unit {0})) (T : Table)
+        → Keeps parts fit stands coming better opening (setup_of rules) (sums_under rules (quiet T)) first
+        → GoesThrough (shown_after parts first rules) (sums_under rules (quiet T)) (run_after (sums_under rules (quiet T)) (search_after (setup_of rules) better opening (at_first (setup_of rules))))
+    laws_finish stands coming better opening T keeps =
+        quiet-through (shown_after parts first rules) rules.limits T (run_after (sums_under rules (quiet T)) (search_after (setup_of rules) better opening (at_first (setup_of rules))))
+        (laws_follow stands coming better opening (quiet T) keeps)
