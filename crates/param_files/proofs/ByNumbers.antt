@@ -1,17 +1,19 @@
 -- Numbering conditions and clauses, one statement after another.
 use Rattle.std.proofs.Common.{ℕ, ◌≡◌, ◌<◌, ◌≤◌, ◌+◌, List, [], ◌∷◌, ◌++◌, Result, Ok, Err, length, get_or, drop, refl, ap, sym, ◌∙◌, append_assoc}
 use Rattle.std.proofs.lemmas.List.{drop_more, drop_all, append-nil}
+use Rattle.plain_text.specs.Faults.{LineFault, in_line}
+use Rattle.plain_text.specs.Results.{◌>>=◌}
 use Rattle.param_space.specs.declared.lists.Param.{Param}
 use Rattle.param_space.specs.declared.lists.Condition as condition
 use Rattle.param_space.specs.declared.lists.Forbidden.{Forbidden}
-use Rattle.param_files.specs.declared.faults.ParamFault.{ParamFault}
+use Rattle.param_files.specs.declared.faults.ParamWhat.{ParamWhat}
 use Rattle.param_files.specs.declared.statements.Statement.{Statement}
 use Rattle.param_files.specs.declared.statements.Statement.TheVariants.{Nothing, Parameter, Condition, Clause}
-use Rattle.param_files.specs.Reading.{◌>>=◌, in_line, of_space, condition_numbered, clause_numbered, Numbered, with_condition, with_clause, all_numbered}
-use Rattle.param_files.specs.Keeping.{none_numbered, numbered_with}
+use Rattle.param_files.specs.Reading.{of_space, condition_numbered, clause_numbered, Numbered, with_condition, with_clause, all_numbered}
+use Rattle.param_files.specs.KeptStatements.{none_numbered, numbered_with}
 
 -- these before those that follow
-abbrev pub after_numbers : Numbered → Result Numbered ParamFault → Result Numbered ParamFault
+abbrev pub after_numbers : Numbered → Result Numbered (LineFault ParamWhat) → Result Numbered (LineFault ParamWhat)
 after_numbers n (Ok m) = Ok (record {
   conditions = n.conditions ++ m.conditions;
   condition_lines = n.condition_lines ++ m.condition_lines;
@@ -28,13 +30,13 @@ and_condition n line c = record n { conditions = n.conditions ++ c ∷ []; condi
 abbrev and_clause : Numbered → ℕ → Forbidden → Numbered
 and_clause n line f = record n { clauses = n.clauses ++ f ∷ []; clause_lines = n.clause_lines ++ line ∷ [] }
 
-condition_moved : (n : Numbered) (line : ℕ) (c : condition.Condition) (later : Result Numbered ParamFault) → after_numbers n (later >>= λ m. Ok (with_condition line c m)) ≡ after_numbers (and_condition n line c) later
+condition_moved : (n : Numbered) (line : ℕ) (c : condition.Condition) (later : Result Numbered (LineFault ParamWhat)) → after_numbers n (later >>= λ m. Ok (with_condition line c m)) ≡ after_numbers (and_condition n line c) later
 condition_moved n line c (Err e) = refl
 condition_moved n line c (Ok m) =
     ap (λ cs. Ok (record { conditions = cs; condition_lines = n.condition_lines ++ line ∷ m.condition_lines; clauses = n.clauses ++ m.clauses; clause_lines = n.clause_lines ++ m.clause_lines })) (sym (append_assoc n.conditions (c ∷ []) m.conditions))
     ∙ ap (λ ls. Ok (record { conditions = n.conditions ++ c ∷ [] ++ m.conditions; condition_lines = ls; clauses = n.clauses ++ m.clauses; clause_lines = n.clause_lines ++ m.clause_lines })) (sym (append_assoc n.condition_lines (line ∷ []) m.condition_lines))
 
-clause_moved : (n : Numbered) (line : ℕ) (f : Forbidden) (later : Result Numbered ParamFault) → after_numbers n (later >>= λ m. Ok (with_clause line f m)) ≡ after_numbers (and_clause n line f) later
+clause_moved : (n : Numbered) (line : ℕ) (f : Forbidden) (later : Result Numbered (LineFault ParamWhat)) → after_numbers n (later >>= λ m. Ok (with_clause line f m)) ≡ after_numbers (and_clause n line f) later
 clause_moved n line f (Err e) = refl
 clause_moved n line f (Ok m) =
     ap (λ fs. Ok (record { conditions = n.conditions ++ m.conditions; condition_lines = n.condition_lines ++ m.condition_lines; clauses = fs; clause_lines = n.clause_lines ++ line ∷ m.clause_lines })) (sym (append_assoc n.clauses (f ∷ []) m.clauses))
@@ -51,29 +53,29 @@ numbers_step params n new line Nothing later h = ap (λ m. after_numbers m (all_
 numbers_step params n new line (Parameter name values default) later h = ap (λ m. after_numbers m (all_numbered params later)) (same_ok n new h)
 numbers_step params n new line (Condition child parent values) later h = by (in_line line (of_space (condition_numbered params child parent values))) h
   where
-    by : (r : Result condition.Condition ParamFault) → (r >>= λ c. Ok (and_condition n line c)) ≡ Ok new → after_numbers n (r >>= λ c. all_numbered params later >>= λ m. Ok (with_condition line c m)) ≡ after_numbers new (all_numbered params later)
+    by : (r : Result condition.Condition (LineFault ParamWhat)) → (r >>= λ c. Ok (and_condition n line c)) ≡ Ok new → after_numbers n (r >>= λ c. all_numbered params later >>= λ m. Ok (with_condition line c m)) ≡ after_numbers new (all_numbered params later)
     by (Err e) h = absurd (cc)
     by (Ok c) h = condition_moved n line c (all_numbered params later) ∙ ap (λ m. after_numbers m (all_numbered params later)) (same_ok (and_condition n line c) new h)
 numbers_step params n new line (Clause picks) later h = by (in_line line (of_space (clause_numbered params picks))) h
   where
-    by : (r : Result Forbidden ParamFault) → (r >>= λ f. Ok (and_clause n line f)) ≡ Ok new → after_numbers n (r >>= λ f. all_numbered params later >>= λ m. Ok (with_clause line f m)) ≡ after_numbers new (all_numbered params later)
+    by : (r : Result Forbidden (LineFault ParamWhat)) → (r >>= λ f. Ok (and_clause n line f)) ≡ Ok new → after_numbers n (r >>= λ f. all_numbered params later >>= λ m. Ok (with_clause line f m)) ≡ after_numbers new (all_numbered params later)
     by (Err e) h = absurd (cc)
     by (Ok f) h = clause_moved n line f (all_numbered params later) ∙ ap (λ m. after_numbers m (all_numbered params later)) (same_ok (and_clause n line f) new h)
 
 -- a statement with a name or a value that there isn't
-numbers_stop : (params : List Param) (n : Numbered) (line : ℕ) (s : Statement) (later : List (ℕ × Statement)) (e : ParamFault) → numbered_with params n line s ≡ Err e
+numbers_stop : (params : List Param) (n : Numbered) (line : ℕ) (s : Statement) (later : List (ℕ × Statement)) (e : LineFault ParamWhat) → numbered_with params n line s ≡ Err e
     → after_numbers n (all_numbered params ((line, s) ∷ later)) ≡ Err e
 unfolding all_numbered numbered_with
 numbers_stop params n line Nothing later e h = absurd (cc)
 numbers_stop params n line (Parameter name values default) later e h = absurd (cc)
 numbers_stop params n line (Condition child parent values) later e h = by (in_line line (of_space (condition_numbered params child parent values))) h
   where
-    by : (r : Result condition.Condition ParamFault) → (r >>= λ c. Ok (and_condition n line c)) ≡ Err e → after_numbers n (r >>= λ c. all_numbered params later >>= λ m. Ok (with_condition line c m)) ≡ Err e
+    by : (r : Result condition.Condition (LineFault ParamWhat)) → (r >>= λ c. Ok (and_condition n line c)) ≡ Err e → after_numbers n (r >>= λ c. all_numbered params later >>= λ m. Ok (with_condition line c m)) ≡ Err e
     by (Err d) h = cc
     by (Ok c) h = absurd (cc)
 numbers_stop params n line (Clause picks) later e h = by (in_line line (of_space (clause_numbered params picks))) h
   where
-    by : (r : Result Forbidden ParamFault) → (r >>= λ f. Ok (and_clause n line f)) ≡ Err e → after_numbers n (r >>= λ f. all_numbered params later >>= λ m. Ok (with_clause line f m)) ≡ Err e
+    by : (r : Result Forbidden (LineFault ParamWhat)) → (r >>= λ f. Ok (and_clause n line f)) ≡ Err e → after_numbers n (r >>= λ f. all_numbered params later >>= λ m. Ok (with_clause line f m)) ≡ Err e
     by (Err d) h = cc
     by (Ok f) h = absurd (cc)
 
@@ -81,7 +83,7 @@ numbers_stop params n line (Clause picks) later e h = by (in_line line (of_space
 pub numbers_none : (params : List Param) (xs : List (ℕ × Statement)) → all_numbered params xs ≡ after_numbers none_numbered (all_numbered params xs)
 numbers_none params xs = by (all_numbered params xs)
   where
-    by : (r : Result Numbered ParamFault) → r ≡ after_numbers none_numbered r
+    by : (r : Result Numbered (LineFault ParamWhat)) → r ≡ after_numbers none_numbered r
     by (Ok m) = refl
     by (Err e) = refl
 
@@ -93,7 +95,7 @@ numbers_more params xs i d n new inside e h =
     e ∙ ap (λ ys. after_numbers n (all_numbered params ys)) (drop_more xs i d inside) ∙ numbers_step params n new (get_or xs i d).0 (get_or xs i d).1 (drop (i + 1) xs) h
 
 -- a statement that stops the loop
-pub numbers_stops : (params : List Param) (xs : List (ℕ × Statement)) (i : ℕ) (d : ℕ × Statement) (n : Numbered) (fault : ParamFault) → i < length xs
+pub numbers_stops : (params : List Param) (xs : List (ℕ × Statement)) (i : ℕ) (d : ℕ × Statement) (n : Numbered) (fault : LineFault ParamWhat) → i < length xs
     → all_numbered params xs ≡ after_numbers n (all_numbered params (drop i xs)) → numbered_with params n (get_or xs i d).0 (get_or xs i d).1 ≡ Err fault → all_numbered params xs ≡ Err fault
 numbers_stops params xs i d n fault inside e h =
     e ∙ ap (λ ys. after_numbers n (all_numbered params ys)) (drop_more xs i d inside) ∙ numbers_stop params n (get_or xs i d).0 (get_or xs i d).1 (drop (i + 1) xs) fault h

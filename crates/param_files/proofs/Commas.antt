@@ -9,7 +9,7 @@ use Rattle.param_space.specs.declared.lists.Param.{Param}
 use Rattle.param_space.specs.declared.lists.Condition.{Condition}
 use Rattle.param_space.specs.declared.lists.Forbidden.{Forbidden}
 use Rattle.param_space.specs.Space.{Lists}
-use Rattle.param_files.specs.Printing.{with_commas, param_line, condition_line, clause_line, printed}
+use Rattle.param_files.specs.PrintedLines.{with_commas, param_line, condition_line, clause_line, space_text}
 
 -- what joining gives
 pub join_by-commas : {X : Type 0} (f : X → List ℕ) (xs : List X) → join_by f (codes ", ") xs ≡ with_commas (map f xs)
@@ -22,8 +22,8 @@ abbrev pub ended : List ℕ → List ℕ
 ended line = line ++ codes "\n"
 
 -- the text of a space is that of its parameters, its conditions and its clauses
-pub printed-parts : (lists : Lists) → printed lists ≡ flat_map (λ p. ended (param_line p)) lists.params ++ (flat_map (λ c. ended (condition_line lists.params c)) lists.conditions ++ flat_map (λ f. ended (clause_line lists.params f)) lists.forbidden)
-printed-parts lists =
+pub space_text-parts : (lists : Lists) → space_text lists ≡ flat_map (λ p. ended (param_line p)) lists.params ++ (flat_map (λ c. ended (condition_line lists.params c)) lists.conditions ++ flat_map (λ f. ended (clause_line lists.params f)) lists.forbidden)
+space_text-parts lists =
     flat_map-append ended (map param_line lists.params) (map (condition_line lists.params) lists.conditions ++ map (clause_line lists.params) lists.forbidden)
     ∙ ap (λ t. t ++ flat_map ended (map (condition_line lists.params) lists.conditions ++ map (clause_line lists.params) lists.forbidden)) (flat_map-map ended param_line lists.params)
     ∙ ap (λ t. flat_map (λ p. ended (param_line p)) lists.params ++ t)
@@ -39,10 +39,10 @@ pub three_parts : (lists : Lists) (params : List Param) (conditions : List Condi
     → first ≡ start ++ flat_map (λ p. ended (param_line p)) params
     → second ≡ first ++ flat_map (λ c. ended (condition_line params c)) conditions
     → whole ≡ second ++ flat_map (λ f. ended (clause_line params f)) clauses
-    → params ≡ lists.params → conditions ≡ lists.conditions → clauses ≡ lists.forbidden → whole ≡ printed lists
+    → params ≡ lists.params → conditions ≡ lists.conditions → clauses ≡ lists.forbidden → whole ≡ space_text lists
 three_parts lists params conditions clauses start first second whole s f m w p c k =
     let front = flat_map (λ q. ended (param_line q)) params in
     let middle = flat_map (λ d. ended (condition_line params d)) conditions in
     let back = flat_map (λ e. ended (clause_line params e)) clauses in
     let same : whole ≡ front ++ (middle ++ back) = w ∙ ap (λ t. t ++ back) (m ∙ ap (λ t. t ++ middle) (f ∙ ap (λ t. t ++ front) s)) ∙ append_assoc front middle back in
-    same ∙ (λ i. flat_map (λ q. ended (param_line q)) (p i) ++ (flat_map (λ d. ended (condition_line (p i) d)) (c i) ++ flat_map (λ e. ended (clause_line (p i) e)) (k i))) ∙ sym (printed-parts lists)
+    same ∙ (λ i. flat_map (λ q. ended (param_line q)) (p i) ++ (flat_map (λ d. ended (condition_line (p i) d)) (c i) ++ flat_map (λ e. ended (clause_line (p i) e)) (k i))) ∙ sym (space_text-parts lists)

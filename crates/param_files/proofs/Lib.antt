@@ -1,12 +1,25 @@
-pub mod Fronts
-pub mod Lists
-pub mod Picks
-pub mod Ends
-pub mod Differ
-pub mod AllSome
-pub mod ByNumbers
-pub mod Readings
-pub mod KeptLines
-pub mod Commas
-pub mod Printed
-pub mod Wholes
+mod AcceptedStatements
+mod AllSome
+mod ByNumbers
+mod Commas
+mod Ends
+mod Fronts
+mod KeptLines
+mod LineFormats
+mod LineTokens
+mod Lists
+mod OwnPlaces
+mod PickNames
+mod Picks
+mod PlainLines
+mod Readings
+mod RoundTrip
+mod SoundParams
+mod SoundRelations
+mod SpaceNumbers
+mod SpaceRules
+mod StatementForms
+mod TextNumbers
+mod Wholes
+mod WrittenStatements
+mod WrittenTokens

@@ -3,7 +3,7 @@ use Rattle.std.proofs.Common.{ℕ, ◌≡◌, ◌<◌, true, false, List, [], �
 use Rattle.std.specs.Option.{option_map}
 use Rattle.std.specs.Prelude.{codes}
 use Rattle.param_files.specs.declared.statements.NamedPick.{NamedPick}
-use Rattle.param_files.specs.Grammar.{is_pick, picked}
+use Rattle.param_files.specs.Grammar.{is_pick, pick_list}
 use Rattle.param_files.proofs.Fronts.{different}
 
 -- these picks before others
@@ -18,13 +18,13 @@ regrouped picks pick (Some more) = ap (λ ps. Some (ps, more.1)) (sym (append_as
 pub pushed : (picks done : List NamedPick) (name name' value value' : List ℕ) → done ≡ picks ++ record { name = name'; value = value' } ∷ [] → name' ≡ name → value' ≡ value → done ≡ picks ++ record { name = name; value = value } ∷ []
 pushed picks done name name' value value' e n v = e ∙ ap (λ x. picks ++ record { name = x; value = value' } ∷ []) n ∙ ap (λ x. picks ++ record { name = name; value = x } ∷ []) v
 
-module _ (tokens rest : List (List ℕ)) (picks : List NamedPick) (sofar : picked tokens ≡ after_picks picks (picked rest)) where
+module _ (tokens rest : List (List ℕ)) (picks : List NamedPick) (sofar : pick_list tokens ≡ after_picks picks (pick_list rest)) where
   -- too few tokens are left
-  pub picked_short : length rest < 4 → None ≡ picked tokens
-  unfolding picked
+  pub picked_short : length rest < 4 → None ≡ pick_list tokens
+  unfolding pick_list
   picked_short h = sym (sofar ∙ ap (after_picks picks) (by rest h))
     where
-      by : (rest : List (List ℕ)) → length rest < 4 → picked rest ≡ None
+      by : (rest : List (List ℕ)) → length rest < 4 → pick_list rest ≡ None
       by [] h = refl
       by (t ∷ []) h = refl
       by (t ∷ u ∷ []) h = refl
@@ -35,25 +35,25 @@ module _ (tokens rest : List (List ℕ)) (picks : List NamedPick) (sofar : picke
     abbrev pick : NamedPick
     pick = record { name = name; value = value }
 
-    whole : picked tokens ≡ after_picks picks (picked (name ∷ equals ∷ value ∷ mark ∷ later))
-    whole = sofar ∙ ap (λ r. after_picks picks (picked r)) is
+    whole : pick_list tokens ≡ after_picks picks (pick_list (name ∷ equals ∷ value ∷ mark ∷ later))
+    whole = sofar ∙ ap (λ r. after_picks picks (pick_list r)) is
 
     -- another form
-    pub picked_no_pick : false ≡ is_pick name equals value → None ≡ picked tokens
-    unfolding picked
+    pub picked_no_pick : false ≡ is_pick name equals value → None ≡ pick_list tokens
+    unfolding pick_list
     picked_no_pick h = sym (whole ∙ rw (← h) refl)
 
     -- the last pick
-    pub picked_last : (done : List NamedPick) → done ≡ picks ++ pick ∷ [] → true ≡ is_pick name equals value → mark ≡ codes "}" → Some (done, later) ≡ picked tokens
-    unfolding picked
+    pub picked_last : (done : List NamedPick) → done ≡ picks ++ pick ∷ [] → true ≡ is_pick name equals value → mark ≡ codes "}" → Some (done, later) ≡ pick_list tokens
+    unfolding pick_list
     picked_last done e h m = ap (λ ps. Some (ps, later)) e ∙ sym (whole ∙ rw (← h, m) refl)
 
     -- another pick
-    pub picked_more : (done : List NamedPick) → done ≡ picks ++ pick ∷ [] → true ≡ is_pick name equals value → mark ≡ codes "," → picked tokens ≡ after_picks done (picked later)
-    unfolding picked
-    picked_more done e h m = whole ∙ rw (← h, m) (regrouped picks pick (picked later)) ∙ ap (λ ps. after_picks ps (picked later)) (sym e)
+    pub picked_more : (done : List NamedPick) → done ≡ picks ++ pick ∷ [] → true ≡ is_pick name equals value → mark ≡ codes "," → pick_list tokens ≡ after_picks done (pick_list later)
+    unfolding pick_list
+    picked_more done e h m = whole ∙ rw (← h, m) (regrouped picks pick (pick_list later)) ∙ ap (λ ps. after_picks ps (pick_list later)) (sym e)
 
     -- another mark
-    pub picked_no_mark : true ≡ is_pick name equals value → (mark ≡ codes "}" → ⊥) → (mark ≡ codes "," → ⊥) → None ≡ picked tokens
-    unfolding picked
+    pub picked_no_mark : true ≡ is_pick name equals value → (mark ≡ codes "}" → ⊥) → (mark ≡ codes "," → ⊥) → None ≡ pick_list tokens
+    unfolding pick_list
     picked_no_mark h a b = sym (whole ∙ rw (← h, different mark (codes "}") a, different mark (codes ",") b) refl)

@@ -17,13 +17,13 @@ is_nothing (t ∷ []) = is_heading t
 is_nothing (t ∷ u ∷ later) = false
 
 -- one or more values parted by commas, a closing brace, and what follows it
-unfoldable pub listed : List (List ℕ) → Option (List (List ℕ) × List (List ℕ))
-listed [] = None
-listed (value ∷ []) = None
-listed (value ∷ mark ∷ rest) =
+unfoldable pub value_list : List (List ℕ) → Option (List (List ℕ) × List (List ℕ))
+value_list [] = None
+value_list (value ∷ []) = None
+value_list (value ∷ mark ∷ rest) =
     if not (is_word value) then None
     else if bytes_eq mark (codes "}") then Some (value ∷ [], rest)
-    else if bytes_eq mark (codes ",") then option_map (λ more. (value ∷ more.0, more.1)) (listed rest)
+    else if bytes_eq mark (codes ",") then option_map (λ more. (value ∷ more.0, more.1)) (value_list rest)
     else None
 
 -- `name=value`
@@ -31,15 +31,15 @@ abbrev pub is_pick : List ℕ → List ℕ → List ℕ → Bool
 is_pick name equals value = is_word name && (bytes_eq equals (codes "=") && is_word value)
 
 -- one or more picks parted by commas, a closing brace, and what follows it
-unfoldable pub picked : List (List ℕ) → Option (List NamedPick × List (List ℕ))
-picked [] = None
-picked (name ∷ []) = None
-picked (name ∷ equals ∷ []) = None
-picked (name ∷ equals ∷ value ∷ []) = None
-picked (name ∷ equals ∷ value ∷ mark ∷ rest) =
+unfoldable pub pick_list : List (List ℕ) → Option (List NamedPick × List (List ℕ))
+pick_list [] = None
+pick_list (name ∷ []) = None
+pick_list (name ∷ equals ∷ []) = None
+pick_list (name ∷ equals ∷ value ∷ []) = None
+pick_list (name ∷ equals ∷ value ∷ mark ∷ rest) =
     if not (is_pick name equals value) then None
     else if bytes_eq mark (codes "}") then Some (record { name = name; value = value } ∷ [], rest)
-    else if bytes_eq mark (codes ",") then option_map (λ more. (record { name = name; value = value } ∷ more.0, more.1)) (picked rest)
+    else if bytes_eq mark (codes ",") then option_map (λ more. (record { name = name; value = value } ∷ more.0, more.1)) (pick_list rest)
     else None
 
 -- a clause ends at its closing brace
@@ -51,7 +51,7 @@ ended_clause (Some (picks, t ∷ later)) = None
 -- `{name=value, name=value}`
 unfoldable pub clause_of : List (List ℕ) → Option Statement
 clause_of [] = None
-clause_of (brace ∷ rest) = if bytes_eq brace (codes "{") then ended_clause (picked rest) else None
+clause_of (brace ∷ rest) = if bytes_eq brace (codes "{") then ended_clause (pick_list rest) else None
 
 -- `child | parent in {`
 abbrev pub is_condition_head : List ℕ → List ℕ → List ℕ → List ℕ → List ℕ → Bool
@@ -67,7 +67,7 @@ ended_condition child parent (Some (values, t ∷ later)) = None
 -- `child | parent in {v1, v2}`
 unfoldable pub condition_of : List (List ℕ) → Option Statement
 condition_of (child ∷ bar ∷ parent ∷ word ∷ brace ∷ rest) =
-    if is_condition_head child bar parent word brace then ended_condition child parent (listed rest) else None
+    if is_condition_head child bar parent word brace then ended_condition child parent (value_list rest) else None
 condition_of (child ∷ bar ∷ parent ∷ word ∷ []) = None
 condition_of (child ∷ bar ∷ parent ∷ []) = None
 condition_of (child ∷ bar ∷ []) = None
@@ -96,7 +96,7 @@ unfoldable pub parameter_of : List (List ℕ) → Option Statement
 parameter_of [] = None
 parameter_of (name ∷ []) = None
 parameter_of (name ∷ brace ∷ rest) =
-    if is_word name && bytes_eq brace (codes "{") then listed_parameter name (listed rest) else None
+    if is_word name && bytes_eq brace (codes "{") then listed_parameter name (value_list rest) else None
 
 -- the first that there is
 abbrev pub or_form : Option Statement → Option Statement → Option Statement

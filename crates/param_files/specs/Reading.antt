@@ -1,10 +1,15 @@
 -- The space that a parameter file states, or the file's first fault with its line.
-use Rattle.std.specs.Prelude.{ℕ, ◌≡◌, ◌&&◌, Bool, true, false, not, List, [], ◌∷◌, ◌++◌, Option, Some, None, Result, Ok, Err, nat_lt, nat_le, length, map, slice_index, slice_index_or, option_map, position, bytes_eq, if◌then◌else◌}
+use Rattle.std.specs.Prelude.{ℕ, ◌&&◌, Bool, true, false, not, List, [], ◌∷◌, ◌++◌, Option, Some, None, Result, Ok, Err, nat_lt, nat_le, length, map, slice_index, slice_index_or, option_map, ok_or, position, bytes_eq, if◌then◌else◌}
 use Rattle.std.specs.List.{list_any, filter, position_or_len}
 use Rattle.std.specs.Str.{is_utf8}
-use Rattle.plain_text.specs.Lines.{max_bytes, numbered_lines}
-pub use Rattle.plain_text.specs.Results.{◌>>=◌, or_fault}
+use Rattle.plain_text.specs.Faults.{LineFault, in_line}
+use Rattle.plain_text.specs.Limits.{max_bytes}
+use Rattle.plain_text.specs.LineFolds.{fold_lines}
+use Rattle.plain_text.specs.Lines.{numbered_lines}
+use Rattle.plain_text.specs.Results.{◌>>=◌}
+use Rattle.plain_text.specs.Texts.{texts_differ}
 use Rattle.plain_text.specs.Tokens.{token_texts}
+use Rattle.param_space.specs.Limits
 use Rattle.param_space.specs.declared.lists.Param.{Param}
 use Rattle.param_space.specs.declared.lists.Condition as condition
 use Rattle.param_space.specs.declared.lists.Pick.{Pick}
@@ -13,14 +18,10 @@ use Rattle.param_space.specs.declared.lists.Part.{Part}
 use Rattle.param_space.specs.declared.lists.Part.TheVariants as part
 use Rattle.param_space.specs.declared.lists.SpaceWhat.{SpaceWhat}
 use Rattle.param_space.specs.declared.lists.SpaceWhat.TheVariants.{NoParameters, TooMany, DoubleName, DoubleValue, BadDefault, UnknownName, UnknownValue}
-use Rattle.param_space.specs.declared.lists.SpaceFault.{SpaceFault}
-use Rattle.param_space.specs.declared.lists.SpaceFault.TheVariants as space_fault
-use Rattle.param_space.specs.Space.{Lists}
-use Rattle.param_space.specs.Faults.{first_broken, texts_differ, whole_fault}
+use Rattle.param_space.specs.Space.{Lists, space_lists}
+use Rattle.param_space.specs.Faults.{first_broken, whole_fault}
 use Rattle.param_files.specs.declared.faults.ParamWhat.{ParamWhat}
 use Rattle.param_files.specs.declared.faults.ParamWhat.TheVariants.{NotText, Form, Space}
-use Rattle.param_files.specs.declared.faults.ParamFault.{ParamFault}
-use Rattle.param_files.specs.declared.faults.ParamFault.TheVariants.{At, Memory}
 use Rattle.param_files.specs.declared.statements.NamedPick.{NamedPick}
 use Rattle.param_files.specs.declared.statements.Statement.{Statement}
 use Rattle.param_files.specs.declared.statements.Statement.TheVariants.{Nothing, Parameter, Condition, Clause}
@@ -36,10 +37,9 @@ abbrev pub of_space : {A : Type 0} → Result A SpaceWhat → Result A ParamWhat
 of_space (Ok x) = Ok x
 of_space (Err what) = Err (Space what)
 
--- a fault with its line
-abbrev pub in_line : {A : Type 0} → ℕ → Result A ParamWhat → Result A ParamFault
-in_line line (Ok x) = Ok x
-in_line line (Err what) = Err (At line what)
+-- a rule of the space that is broken in a line
+abbrev pub space_fault_in : ℕ → SpaceWhat → LineFault ParamWhat
+space_fault_in line what = record { line = line; what = Space what }
 
 -- ---- line by line
 
@@ -72,7 +72,7 @@ is_clause (Clause picks) = true
 -- the rules of a line that a parameter keeps, after these
 abbrev pub parameter_rules : List Param → List ℕ → List (List ℕ) → List ℕ → List (Bool × SpaceWhat)
 parameter_rules params name values default =
-    (nat_lt (length params) 256 && nat_le (length values) 256, TooMany)
+    (nat_lt (length params) Limits.max_params && nat_le (length values) Limits.max_values, TooMany)
     ∷ (not (list_any (λ p. bytes_eq name p.name) params), DoubleName)
     ∷ (texts_differ values, DoubleValue)
     ∷ (list_any (bytes_eq default) values, BadDefault)
@@ -81,14 +81,14 @@ parameter_rules params name values default =
 -- the rules of a line that a condition with these values keeps, after so many
 abbrev pub condition_rules : ℕ → List (List ℕ) → List (Bool × SpaceWhat)
 condition_rules conditions values =
-    (nat_lt conditions 1024, TooMany)
+    (nat_lt conditions Limits.max_conditions, TooMany)
     ∷ (texts_differ values, DoubleValue)
     ∷ []
 
 -- the rules of a line that a clause keeps, after so many
 abbrev pub clause_rules : ℕ → List NamedPick → List (Bool × SpaceWhat)
 clause_rules clauses picks =
-    (nat_lt clauses 4096 && nat_le (length picks) 16, TooMany)
+    (nat_lt clauses Limits.max_clauses && nat_le (length picks) Limits.max_picks, TooMany)
     ∷ (texts_differ (map (λ k. k.name) picks), DoubleName)
     ∷ []
 
@@ -104,22 +104,20 @@ abbrev pub statement_fault : List Statement → Statement → Option SpaceWhat
 statement_fault earlier s = fault_after (params_in earlier) (length (filter is_condition earlier)) (length (filter is_clause earlier)) s
 
 -- a statement that keeps the rules of a line, after these statements
-abbrev pub accepted : List Statement → Statement → Result Statement ParamWhat
-accepted earlier s = unless (statement_fault earlier s) s
+abbrev pub statement_check : List Statement → Statement → Result Statement ParamWhat
+statement_check earlier s = unless (statement_fault earlier s) s
 
 -- what a line states, or that it is no text or has none of the forms
 unfoldable pub line_stated : List ℕ → Result Statement ParamWhat
-line_stated line = if is_utf8 line then or_fault Form (statement_of (token_texts line)) else Err NotText
+line_stated line = if is_utf8 line then ok_or (statement_of (token_texts line)) Form else Err NotText
 
 -- what a line states, after these statements, or its first fault
 abbrev pub line_read : List Statement → List ℕ → Result Statement ParamWhat
-line_read earlier line = line_stated line >>= accepted earlier
+line_read earlier line = line_stated line >>= statement_check earlier
 
--- what numbered lines state, after these statements, or the first fault
-unfoldable pub lines_read : List (ℕ × Statement) → List (ℕ × List ℕ) → Result (List (ℕ × Statement)) ParamFault
-lines_read earlier [] = Ok earlier
-lines_read earlier ((number, line) ∷ later) =
-    in_line number (line_read (map (λ s. s.1) earlier) line) >>= λ s. lines_read (earlier ++ (number, s) ∷ []) later
+-- statements with their lines, and what one more line states
+abbrev pub with_line : List (ℕ × Statement) → ℕ → List ℕ → Result (List (ℕ × Statement)) ParamWhat
+with_line earlier number line = line_read (map (λ s. s.1) earlier) line >>= λ s. Ok (earlier ++ (number, s) ∷ [])
 
 -- ---- names and values as numbers
 
@@ -145,9 +143,9 @@ value_number params p value = position (λ v. bytes_eq v value) (slice_index_or 
 -- a condition by numbers: its names, then its values
 unfoldable pub condition_numbered : List Param → List ℕ → List ℕ → List (List ℕ) → Result condition.Condition SpaceWhat
 condition_numbered params child parent values =
-    or_fault UnknownName (param_number params child) >>= λ c.
-    or_fault UnknownName (param_number params parent) >>= λ p.
-    or_fault UnknownValue (all_some (value_number params p) values) >>= λ vs.
+    ok_or (param_number params child) UnknownName >>= λ c.
+    ok_or (param_number params parent) UnknownName >>= λ p.
+    ok_or (all_some (value_number params p) values) UnknownValue >>= λ vs.
     Ok (record { child = c; parent = p; values = vs })
 
 -- this value of the parameter with a number
@@ -162,8 +160,8 @@ pick_numbered params pick = pick_of params pick.value (param_number params pick.
 -- a clause by numbers: all its names, then its values
 unfoldable pub clause_numbered : List Param → List NamedPick → Result Forbidden SpaceWhat
 clause_numbered params picks =
-    or_fault UnknownName (all_some (λ k. param_number params k.name) picks) >>= λ _.
-    or_fault UnknownValue (all_some (pick_numbered params) picks) >>= λ numbers.
+    ok_or (all_some (λ k. param_number params k.name) picks) UnknownName >>= λ _.
+    ok_or (all_some (pick_numbered params) picks) UnknownValue >>= λ numbers.
     Ok (record { picks = numbers })
 
 -- conditions and clauses by numbers, and their lines
@@ -182,7 +180,7 @@ abbrev pub with_clause : ℕ → Forbidden → Numbered → Numbered
 with_clause line f later = record later { clauses = f ∷ later.clauses; clause_lines = line ∷ later.clause_lines }
 
 -- the conditions and the clauses of statements by numbers, or the first fault
-unfoldable pub all_numbered : List Param → List (ℕ × Statement) → Result Numbered ParamFault
+unfoldable pub all_numbered : List Param → List (ℕ × Statement) → Result Numbered (LineFault ParamWhat)
 all_numbered params [] = Ok (record { conditions = []; condition_lines = []; clauses = []; clause_lines = [] })
 all_numbered params ((line, Nothing) ∷ later) = all_numbered params later
 all_numbered params ((line, Parameter name values default) ∷ later) = all_numbered params later
@@ -199,11 +197,7 @@ all_numbered params ((line, Clause picks) ∷ later) =
 
 -- the lists of parameters and of what is said of them by numbers
 abbrev pub lists_of : List Param → Numbered → Lists
-lists_of params numbered = record {
-  params = params;
-  conditions = numbered.conditions;
-  forbidden = numbered.clauses;
-}
+lists_of params numbered = space_lists params numbered.conditions numbered.clauses
 
 -- the line of an element of the lists, where these are the lines of the conditions and of the clauses; 0 for one of another list
 abbrev pub line_of : List ℕ → List ℕ → Part → ℕ → ℕ
@@ -212,34 +206,29 @@ line_of condition_lines clause_lines part.Condition place = slice_index conditio
 line_of condition_lines clause_lines part.Forbidden place = slice_index clause_lines place
 line_of condition_lines clause_lines part.Whole place = 0
 
--- lists without a fault as a whole, or the fault with its line
-abbrev pub without_fault : Numbered → Lists → Option SpaceFault → Result Lists ParamFault
-without_fault numbered lists None = Ok lists
-without_fault numbered lists (Some (space_fault.At part place what)) = Err (At (line_of numbered.condition_lines numbered.clause_lines part place) (Space what))
-without_fault numbered lists (Some space_fault.Memory) = Err Memory
+-- a breach of these lists, by its parts, with its line
+abbrev pub breach_fault : Numbered → Part → ℕ → SpaceWhat → LineFault ParamWhat
+breach_fault numbered part place what = space_fault_in (line_of numbered.condition_lines numbered.clause_lines part place) what
 
--- no cycle, and no clause that forbids the defaults
-abbrev pub whole : Numbered → Lists → Result Lists ParamFault
-whole numbered lists = without_fault numbered lists (whole_fault lists)
+-- the value, or else the fault that there is, with its line
+abbrev pub without_fault : {A : Type 0} → Option (LineFault ParamWhat) → A → Result A (LineFault ParamWhat)
+without_fault None x = Ok x
+without_fault (Some fault) x = Err fault
 
 -- one or more parameters
-abbrev pub some_params : List Param → Result (List Param) ParamFault
-some_params [] = Err (At 0 (Space NoParameters))
+abbrev pub some_params : List Param → Result (List Param) (LineFault ParamWhat)
+some_params [] = Err (space_fault_in 0 NoParameters)
 some_params (p ∷ later) = Ok (p ∷ later)
 
--- the space that statements with their lines make, or the first fault
-unfoldable pub space_stated : List (ℕ × Statement) → Result Lists ParamFault
+-- the space that statements with their lines make, or the first fault: at last no cycle, and no clause that forbids the defaults
+unfoldable pub space_stated : List (ℕ × Statement) → Result Lists (LineFault ParamWhat)
 space_stated stated =
     some_params (params_in (map (λ s. s.1) stated)) >>= λ params.
     all_numbered params stated >>= λ numbered.
-    whole numbered (lists_of params numbered)
+    without_fault (option_map (λ b. breach_fault numbered b.part b.place b.what) (whole_fault (lists_of params numbered))) (lists_of params numbered)
 
 -- the space of a file, or its first fault
-unfoldable pub params_read : List ℕ → Result Lists ParamFault
+unfoldable pub params_read : List ℕ → Result Lists (LineFault ParamWhat)
 params_read text =
-    if nat_lt max_bytes (length text) then Err (At 0 (Space TooMany)) else lines_read [] (numbered_lines text) >>= space_stated
-
--- the fault that is returned is the one that is found; memory may always run out
-abbrev pub IsReadingFault : {A : Type 0} → ParamFault → Result A ParamFault → Type 0
-IsReadingFault Memory found = Unit {0}
-IsReadingFault (At line what) found = found ≡ Err (At line what)
+    if nat_lt max_bytes (length text) then Err (space_fault_in 0 TooMany)
+    else fold_lines with_line [] (numbered_lines text) >>= space_stated

@@ -1,7 +1,7 @@
 //! The forms of a line, over its tokens.
 ghost use Rattle.std.specs.Prelude.{◌≡◌, ◌&&◌, ◌≤◌, IfOk, IfSome, length, map, option_map, drop, bytes_eq, codes};
 ghost use Rattle.std.specs.Option.{option_copied};
-ghost use Rattle.param_files.specs.Grammar.{is_heading as heading, is_nothing as nothing, is_pick as pick, is_condition_head as condition_head, is_default as default_part, default_of as default_in, listed as listed_in, picked as picked_in, clause_of as clause_in, condition_of as condition_in, parameter_of as parameter_in, statement_of as statement_in};
+ghost use Rattle.param_files.specs.Grammar;
 
 use crate::statements::{NamedPick, Statement};
 use objective::Memory;
@@ -24,14 +24,14 @@ struct PickList {
 
 /// Whether the token is a heading, in any ASCII case.
 fn is_heading(token: &str) -> bool
-    ensures { result ≡ heading token.now }
+    ensures { result ≡ Grammar.is_heading token.now }
 {
     token.eq_ignore_ascii_case("Conditionals:") || token.eq_ignore_ascii_case("Forbidden:")
 }
 
 /// Whether there are no tokens, or a heading alone.
 fn is_nothing(tokens: &[&str]) -> bool
-    ensures { result ≡ nothing (map (λ t. t.now) tokens.now) }
+    ensures { result ≡ Grammar.is_nothing (map (λ t. t.now) tokens.now) }
 {
     match tokens {
         [] => true,
@@ -42,9 +42,9 @@ fn is_nothing(tokens: &[&str]) -> bool
 
 /// One or more values parted by commas, and a closing brace. None exactly where the tokens
 /// begin otherwise.
-fn listed(alloc: Global, tokens: &[&str]) -> Result<Option<ValueList>, Memory>
+fn value_list(alloc: Global, tokens: &[&str]) -> Result<Option<ValueList>, Memory>
     ensures within { IfOk result (λ r. IfSome r (λ l. l.taken ≤ length tokens.now)) }
-    ensures value { IfOk result (λ r. option_map (λ l. (l.values.items, drop l.taken (map (λ t. t.now) tokens.now))) r ≡ listed_in (map (λ t. t.now) tokens.now)) }
+    ensures value { IfOk result (λ r. option_map (λ l. (l.values.items, drop l.taken (map (λ t. t.now) tokens.now))) r ≡ Grammar.value_list (map (λ t. t.now) tokens.now)) }
 {
     let mut values = Vec::new(alloc);
     let mut taken = 0;
@@ -65,16 +65,16 @@ fn listed(alloc: Global, tokens: &[&str]) -> Result<Option<ValueList>, Memory>
 
 /// Whether the tokens are `name=value`.
 fn is_pick(name: &str, equals: &str, value: &str) -> bool
-    ensures { result ≡ pick name.now equals.now value.now }
+    ensures { result ≡ Grammar.is_pick name.now equals.now value.now }
 {
     is_word(name) && equals == "=" && is_word(value)
 }
 
 /// One or more picks parted by commas, and a closing brace. None exactly where the tokens
 /// begin otherwise.
-fn picked(alloc: Global, tokens: &[&str]) -> Result<Option<PickList>, Memory>
+fn pick_list(alloc: Global, tokens: &[&str]) -> Result<Option<PickList>, Memory>
     ensures within { IfOk result (λ r. IfSome r (λ l. l.taken ≤ length tokens.now)) }
-    ensures value { IfOk result (λ r. option_map (λ l. (l.picks.items, drop l.taken (map (λ t. t.now) tokens.now))) r ≡ picked_in (map (λ t. t.now) tokens.now)) }
+    ensures value { IfOk result (λ r. option_map (λ l. (l.picks.items, drop l.taken (map (λ t. t.now) tokens.now))) r ≡ Grammar.pick_list (map (λ t. t.now) tokens.now)) }
 {
     let mut picks = Vec::new(alloc);
     let mut taken = 0;
@@ -99,7 +99,7 @@ fn picked(alloc: Global, tokens: &[&str]) -> Result<Option<PickList>, Memory>
 /// A forbidden clause. None exactly where the tokens are none.
 #[tactic(auto, unfolding(crate::specs::Grammar::clause_of))]
 fn clause_of(alloc: Global, tokens: &[&str]) -> Result<Option<Statement>, Memory>
-    ensures { IfOk result (λ s. s ≡ clause_in (map (λ t. t.now) tokens.now)) }
+    ensures { IfOk result (λ s. s ≡ Grammar.clause_of (map (λ t. t.now) tokens.now)) }
 {
     let [brace, rest @ ..] = tokens else {
         return Ok(None);
@@ -107,7 +107,7 @@ fn clause_of(alloc: Global, tokens: &[&str]) -> Result<Option<Statement>, Memory
     if *brace != "{" {
         return Ok(None);
     }
-    let Some(list) = picked(alloc, rest)? else {
+    let Some(list) = pick_list(alloc, rest)? else {
         return Ok(None);
     };
     match &rest[list.taken..] {
@@ -120,7 +120,7 @@ fn clause_of(alloc: Global, tokens: &[&str]) -> Result<Option<Statement>, Memory
 
 /// Whether the tokens are `child | parent in {`.
 fn is_condition_head(child: &str, bar: &str, parent: &str, word: &str, brace: &str) -> bool
-    ensures { result ≡ condition_head child.now bar.now parent.now word.now brace.now }
+    ensures { result ≡ Grammar.is_condition_head child.now bar.now parent.now word.now brace.now }
 {
     is_word(child) && bar == "|" && is_word(parent) && word == "in" && brace == "{"
 }
@@ -128,7 +128,7 @@ fn is_condition_head(child: &str, bar: &str, parent: &str, word: &str, brace: &s
 /// A condition. None exactly where the tokens are none.
 #[tactic(auto, unfolding(crate::specs::Grammar::condition_of))]
 fn condition_of(alloc: Global, tokens: &[&str]) -> Result<Option<Statement>, Memory>
-    ensures { IfOk result (λ s. s ≡ condition_in (map (λ t. t.now) tokens.now)) }
+    ensures { IfOk result (λ s. s ≡ Grammar.condition_of (map (λ t. t.now) tokens.now)) }
 {
     let [child, bar, parent, word, brace, rest @ ..] = tokens else {
         return Ok(None);
@@ -136,7 +136,7 @@ fn condition_of(alloc: Global, tokens: &[&str]) -> Result<Option<Statement>, Mem
     if !is_condition_head(child, bar, parent, word, brace) {
         return Ok(None);
     }
-    let Some(list) = listed(alloc, rest)? else {
+    let Some(list) = value_list(alloc, rest)? else {
         return Ok(None);
     };
     match &rest[list.taken..] {
@@ -151,14 +151,14 @@ fn condition_of(alloc: Global, tokens: &[&str]) -> Result<Option<Statement>, Mem
 
 /// Whether the tokens are `[default]`.
 fn is_default(left: &str, default: &str, right: &str) -> bool
-    ensures { result ≡ default_part left.now default.now right.now }
+    ensures { result ≡ Grammar.is_default left.now default.now right.now }
 {
     left == "[" && is_word(default) && right == "]"
 }
 
 /// The default in `[default]`. None exactly where the tokens are anything else.
 fn default_of<'a>(tokens: &[&'a str]) -> Option<&'a str>
-    ensures { option_copied result ≡ default_in (map (λ t. t.now) tokens.now) }
+    ensures { option_copied result ≡ Grammar.default_of (map (λ t. t.now) tokens.now) }
 {
     let [left, default, right] = tokens else {
         return None;
@@ -172,7 +172,7 @@ fn default_of<'a>(tokens: &[&'a str]) -> Option<&'a str>
 /// A parameter. None exactly where the tokens are none.
 #[tactic(auto, unfolding(crate::specs::Grammar::parameter_of))]
 fn parameter_of(alloc: Global, tokens: &[&str]) -> Result<Option<Statement>, Memory>
-    ensures { IfOk result (λ s. s ≡ parameter_in (map (λ t. t.now) tokens.now)) }
+    ensures { IfOk result (λ s. s ≡ Grammar.parameter_of (map (λ t. t.now) tokens.now)) }
 {
     let [name, brace, rest @ ..] = tokens else {
         return Ok(None);
@@ -180,7 +180,7 @@ fn parameter_of(alloc: Global, tokens: &[&str]) -> Result<Option<Statement>, Mem
     if !is_word(name) || *brace != "{" {
         return Ok(None);
     }
-    let Some(list) = listed(alloc, rest)? else {
+    let Some(list) = value_list(alloc, rest)? else {
         return Ok(None);
     };
     let Some(default) = default_of(&rest[list.taken..]) else {
@@ -196,7 +196,7 @@ fn parameter_of(alloc: Global, tokens: &[&str]) -> Result<Option<Statement>, Mem
 /// What a line with these tokens states. None exactly where it has none of the forms.
 #[tactic(auto, unfolding(crate::specs::Grammar::statement_of))]
 pub(crate) fn statement_of(alloc: Global, tokens: &[&str]) -> Result<Option<Statement>, Memory>
-    ensures { IfOk result (λ s. s ≡ statement_in (map (λ t. t.now) tokens.now)) }
+    ensures { IfOk result (λ s. s ≡ Grammar.statement_of (map (λ t. t.now) tokens.now)) }
 {
     if is_nothing(tokens) {
         return Ok(Some(Statement::Nothing));

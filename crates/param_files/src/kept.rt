@@ -1,14 +1,15 @@
 //! What is kept of the lines of a parameter file.
 ghost use Rattle.std.specs.Prelude.{◌≡◌, [], Ok, IfErr, OnOk};
 ghost use Rattle.param_files.specs.declared.statements.Statement.TheVariants.{Parameter, Condition, Clause};
-ghost use Rattle.param_files.specs.Reading.{IsReadingFault};
-ghost use Rattle.param_files.specs.Keeping.{kept_of, kept_with};
+ghost use Rattle.plain_text.specs.Faults.{in_line, IsFound};
+ghost use Rattle.param_files.specs.Faults.{fault_of};
+ghost use Rattle.param_files.specs.KeptStatements.{kept_of, kept_with};
 
 use crate::faults::{ParamFault, broken};
-use crate::line_rules::{clause_fault, condition_fault, param_fault, place_of};
+use crate::line_rules::{clause_fault, condition_fault, param_fault};
 use crate::statements::{NamedPick, Statement};
 use param_space::Param;
-use plain_text::{Items, Text};
+use plain_text::{Items, Text, place_of};
 use std::alloc::Global;
 use std::marker::Model;
 
@@ -22,16 +23,16 @@ pub(crate) struct Kept {
 }
 
 impl Model for Kept {
-    ghost use Rattle.param_files.specs.Keeping.{Kept as Seen};
+    ghost use Rattle.param_files.specs.KeptStatements;
 
-    ghost Value = { Seen };
+    ghost Value = { KeptStatements.Kept };
 
     ghost view = { λ k. record { params = k.params.items; relations = k.relations.items; conditions = k.conditions; clauses = k.clauses } };
 }
 
 impl Kept {
     /// Nothing is kept yet. Takes no memory.
-    #[tactic(auto, unfolding(crate::specs::Keeping::kept_of, crate::specs::Reading::params_in))]
+    #[tactic(auto, unfolding(crate::specs::KeptStatements::kept_of, crate::specs::Reading::params_in))]
     pub fn new(alloc: Global) -> Kept
         ensures { result ≡ kept_of [] }
     {
@@ -48,7 +49,7 @@ impl Kept {
     #[tactic(auto, unfolding(crate::specs::Reading::fault_after))]
     pub fn add(&mut self, alloc: Global, line: u32, statement: Statement) -> Result<(), ParamFault>
         ensures value { OnOk result (kept_with self.old line statement ≡ Ok self.new) }
-        ensures fault { IfErr result (λ e. IsReadingFault e (kept_with self.old line statement)) }
+        ensures fault { IfErr result (λ e. IsFound (fault_of e) (in_line line (kept_with self.old line statement))) }
     {
         match statement {
             Statement::Nothing => Ok(()),
@@ -77,7 +78,7 @@ impl Kept {
         default: Text,
     ) -> Result<(), ParamFault>
         ensures value { OnOk result (kept_with self.old line (Parameter name values default) ≡ Ok self.new) }
-        ensures fault { IfErr result (λ e. IsReadingFault e (kept_with self.old line (Parameter name values default))) }
+        ensures fault { IfErr result (λ e. IsFound (fault_of e) (in_line line (kept_with self.old line (Parameter name values default)))) }
     {
         let (texts, text) = (values.as_slice(), default.as_str());
         if let Some(what) = param_fault(
@@ -109,7 +110,7 @@ impl Kept {
         values: Items<Text>,
     ) -> Result<(), ParamFault>
         ensures value { OnOk result (kept_with self.old line (Condition child parent values) ≡ Ok self.new) }
-        ensures fault { IfErr result (λ e. IsReadingFault e (kept_with self.old line (Condition child parent values))) }
+        ensures fault { IfErr result (λ e. IsFound (fault_of e) (in_line line (kept_with self.old line (Condition child parent values)))) }
     {
         if let Some(what) = condition_fault(alloc, self.conditions, values.as_slice())? {
             return Err(broken(line, what));
@@ -130,7 +131,7 @@ impl Kept {
     #[tactic(auto, unfolding(crate::specs::Reading::fault_after))]
     fn add_clause(&mut self, line: u32, picks: Items<NamedPick>) -> Result<(), ParamFault>
         ensures value { OnOk result (kept_with self.old line (Clause picks) ≡ Ok self.new) }
-        ensures fault { IfErr result (λ e. IsReadingFault e (kept_with self.old line (Clause picks))) }
+        ensures fault { IfErr result (λ e. IsFound (fault_of e) (in_line line (kept_with self.old line (Clause picks)))) }
     {
         if let Some(what) = clause_fault(self.clauses, picks.as_slice()) {
             return Err(broken(line, what));

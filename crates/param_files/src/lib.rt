@@ -15,8 +15,6 @@ mod numbers;
 mod printer;
 mod reader;
 mod statements;
-#[cfg(test)]
-mod tests;
 
 pub use faults::{ParamFault, ParamWhat};
 pub use printer::print_params;

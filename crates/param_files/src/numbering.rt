@@ -1,7 +1,10 @@
 //! Conditions and clauses by numbers.
 ghost use Rattle.std.specs.Prelude.{◌≡◌, Ok, IfOk, IfErr, OnOk, slice_index};
-ghost use Rattle.param_files.specs.Reading.{all_numbered, line_of as line_in, IsReadingFault};
-ghost use Rattle.param_files.specs.Keeping.{none_numbered, numbered_with, AreFew};
+ghost use Rattle.plain_text.specs.Faults.{IsFound};
+ghost use Rattle.param_files.specs.Faults.{fault_of};
+ghost use Rattle.param_files.specs.Reading;
+ghost use Rattle.param_files.specs.Reading.{all_numbered};
+ghost use Rattle.param_files.specs.KeptStatements.{none_numbered, numbered_with, AreFew};
 
 use crate::faults::ParamFault;
 use crate::numbers::{numbered_clause, numbered_condition};
@@ -20,9 +23,9 @@ pub(crate) struct Numbered {
 }
 
 impl Model for Numbered {
-    ghost use Rattle.param_files.specs.Reading.{Numbered as Seen};
+    ghost use Rattle.param_files.specs.Reading;
 
-    ghost Value = { Seen };
+    ghost Value = { Reading.Numbered };
 
     ghost view = { λ n. record { conditions = n.conditions.items; condition_lines = n.condition_lines.items; clauses = n.clauses.items; clause_lines = n.clause_lines.items } };
 }
@@ -42,7 +45,7 @@ impl Numbered {
 
     /// Adds what the statement in this line says by numbers. Fails with the first name or
     /// value that there isn't; then nothing is known of what was added.
-    #[tactic(auto, unfolding(crate::specs::Keeping::numbered_with))]
+    #[tactic(auto, unfolding(crate::specs::KeptStatements::numbered_with))]
     fn add(
         &mut self,
         alloc: Global,
@@ -52,7 +55,7 @@ impl Numbered {
     ) -> Result<(), ParamFault>
         requires { AreFew params.now }
         ensures value { OnOk result (numbered_with params.now self.old line statement.now ≡ Ok self.new) }
-        ensures fault { IfErr result (λ e. IsReadingFault e (numbered_with params.now self.old line statement.now)) }
+        ensures fault { IfErr result (λ e. IsFound (fault_of e) (numbered_with params.now self.old line statement.now)) }
     {
         match statement {
             Statement::Nothing => Ok(()),
@@ -88,7 +91,7 @@ impl Numbered {
 /// The line of an element of the lists, by the lines of the conditions and of the clauses;
 /// 0 for one of another list.
 pub(crate) fn line_of(condition_lines: &[u32], clause_lines: &[u32], part: Part, place: u32) -> u32
-    ensures { result ≡ line_in condition_lines.now clause_lines.now part place }
+    ensures { result ≡ Reading.line_of condition_lines.now clause_lines.now part place }
 {
     match part {
         Part::Param => 0,
@@ -114,7 +117,7 @@ pub(crate) fn all_by_numbers(
 ) -> Result<Numbered, ParamFault>
     requires { AreFew params.now }
     ensures value { IfOk result (λ n. all_numbered params.now relations.now ≡ Ok n) }
-    ensures fault { IfErr result (λ e. IsReadingFault e (all_numbered params.now relations.now)) }
+    ensures fault { IfErr result (λ e. IsFound (fault_of e) (all_numbered params.now relations.now)) }
 {
     let mut numbers = Numbered::new(alloc);
     for (line, statement) in relations {

@@ -1,8 +1,12 @@
 //! Names and values as numbers.
 ghost use Rattle.std.specs.Prelude.{◌≡◌, ◌≤◌, ◌<◌, Ok, IfOk, IfErr, IfSome, length, option_map, position, bytes_eq};
 ghost use Rattle.std.specs.Option.{is_some};
-ghost use Rattle.param_files.specs.Reading.{param_number as param_in, value_number as value_in, all_some, in_line, of_space, pick_numbered, condition_numbered, clause_numbered, IsReadingFault};
-ghost use Rattle.param_files.specs.Keeping.{AreFew};
+ghost use Rattle.plain_text.specs.Faults.{in_line, IsFound};
+ghost use Rattle.param_space.specs.Limits;
+ghost use Rattle.param_files.specs.Faults.{fault_of};
+ghost use Rattle.param_files.specs.Reading;
+ghost use Rattle.param_files.specs.Reading.{all_some, of_space, pick_numbered, condition_numbered, clause_numbered};
+ghost use Rattle.param_files.specs.KeptStatements.{AreFew};
 
 use crate::faults::{ParamFault, broken};
 use crate::statements::NamedPick;
@@ -13,7 +17,7 @@ use std::alloc::Global;
 
 /// The place of the parameter with this name.
 fn param_place(params: &[Param], name: &str) -> Option<usize>
-    ensures value { result ≡ param_in params.now name.now }
+    ensures value { result ≡ Reading.param_number params.now name.now }
     ensures within { IfSome result (λ p. p < length params.now) }
 {
     params.iter().position(|p| p.name.as_str() == name)
@@ -29,8 +33,8 @@ fn value_place(values: &[Text], value: &str) -> Option<usize>
 
 /// The number of the parameter with this name.
 fn param_number(params: &[Param], name: &str) -> Option<u16>
-    requires { length params.now ≤ 256 }
-    ensures value { result ≡ param_in params.now name.now }
+    requires { length params.now ≤ Limits.max_params }
+    ensures value { result ≡ Reading.param_number params.now name.now }
     ensures within { IfSome result (λ p. p < length params.now) }
 {
     let place = param_place(params, name)?;
@@ -41,7 +45,7 @@ fn param_number(params: &[Param], name: &str) -> Option<u16>
 fn value_number(params: &[Param], param: u16, value: &str) -> Option<u16>
     requires in_range { param < length params.now }
     requires few { AreFew params.now }
-    ensures { result ≡ value_in params.now param value.now }
+    ensures { result ≡ Reading.value_number params.now param value.now }
 {
     let place = value_place(params[param as usize].values.as_slice(), value)?;
     Some(place as u16)
@@ -56,7 +60,7 @@ fn value_numbers(
 ) -> Result<Option<Vec<u16>>, Memory>
     requires in_range { param < length params.now }
     requires few { AreFew params.now }
-    ensures { IfOk result (λ r. option_map (λ v. v.items) r ≡ all_some (value_in params.now param) values.now) }
+    ensures { IfOk result (λ r. option_map (λ v. v.items) r ≡ all_some (Reading.value_number params.now param) values.now) }
 {
     let mut numbers = Vec::new(alloc);
     for value in values {
@@ -80,7 +84,7 @@ pub(crate) fn numbered_condition(
 ) -> Result<Condition, ParamFault>
     requires { AreFew params.now }
     ensures value { IfOk result (λ c. condition_numbered params.now child.now parent.now values.now ≡ Ok c) }
-    ensures fault { IfErr result (λ e. IsReadingFault e (in_line line (of_space (condition_numbered params.now child.now parent.now values.now)))) }
+    ensures fault { IfErr result (λ e. IsFound (fault_of e) (in_line line (of_space (condition_numbered params.now child.now parent.now values.now)))) }
 {
     let Some(child) = param_number(params, child) else {
         return Err(broken(line, SpaceWhat::UnknownName));
@@ -100,8 +104,8 @@ pub(crate) fn numbered_condition(
 
 /// Whether all names of the picks are names of parameters.
 fn has_names(params: &[Param], picks: &[NamedPick]) -> bool
-    requires { length params.now ≤ 256 }
-    ensures { result ≡ is_some (all_some (λ k. param_in params.now k.name) picks.now) }
+    requires { length params.now ≤ Limits.max_params }
+    ensures { result ≡ is_some (all_some (λ k. Reading.param_number params.now k.name) picks.now) }
 {
     for pick in picks {
         if param_number(params, pick.name.as_str()).is_none() {
@@ -151,7 +155,7 @@ pub(crate) fn numbered_clause(
 ) -> Result<Forbidden, ParamFault>
     requires { AreFew params.now }
     ensures value { IfOk result (λ f. clause_numbered params.now picks.now ≡ Ok f) }
-    ensures fault { IfErr result (λ e. IsReadingFault e (in_line line (of_space (clause_numbered params.now picks.now)))) }
+    ensures fault { IfErr result (λ e. IsFound (fault_of e) (in_line line (of_space (clause_numbered params.now picks.now)))) }
 {
     if !has_names(params, picks) {
         return Err(broken(line, SpaceWhat::UnknownName));

@@ -1,10 +1,10 @@
 //! A space as the text of a parameter file.
 ghost use Rattle.std.specs.Prelude.{◌≡◌, ◌≤◌, ◌++◌, [], Ok, IfOk, OnOk, OnErr, string_bytes, slice_index_or, length, map, codes};
 ghost use Rattle.std.specs.List.{flat_map};
-ghost use Rattle.plain_text.specs.Lines.{max_bytes};
+ghost use Rattle.plain_text.specs.Limits.{max_bytes};
 ghost use Rattle.param_space.specs.Faults.{IsSpace};
 ghost use Rattle.param_files.specs.Reading.{params_read};
-ghost use Rattle.param_files.specs.Printing.{name_of, value_of, pick_text as text_of_pick, with_commas, param_line as line_of_param, condition_line as line_of_condition, clause_line as line_of_clause, printed};
+ghost use Rattle.param_files.specs.PrintedLines;
 
 use objective::Memory;
 use param_space::{Condition, Forbidden, Param, Pick, Space};
@@ -23,7 +23,7 @@ fn text_at(texts: &[Text], number: u16) -> &str
 
 /// The name of the parameter with this number; an empty one where there is none.
 fn name_at(params: &[Param], number: u16) -> &str
-    ensures { result.now ≡ name_of params.now number }
+    ensures { result.now ≡ PrintedLines.name_of params.now number }
 {
     match params.get(usize::from(number)) {
         Some(param) => param.name.as_str(),
@@ -33,7 +33,7 @@ fn name_at(params: &[Param], number: u16) -> &str
 
 /// The value of a parameter by the numbers of both; an empty one where there is none.
 fn value_at(params: &[Param], number: u16, value: u16) -> &str
-    ensures { result.now ≡ value_of params.now number value }
+    ensures { result.now ≡ PrintedLines.value_of params.now number value }
 {
     match params.get(usize::from(number)) {
         Some(param) => text_at(param.values.as_slice(), value),
@@ -43,7 +43,7 @@ fn value_at(params: &[Param], number: u16, value: u16) -> &str
 
 /// The texts parted by a comma and a space.
 fn parted(alloc: Global, texts: &[Text]) -> Result<String, Memory>
-    ensures { IfOk result (λ t. string_bytes t ≡ with_commas texts.now) }
+    ensures { IfOk result (λ t. string_bytes t ≡ PrintedLines.with_commas texts.now) }
 {
     let mut listed = Vec::new(alloc);
     for text in texts {
@@ -54,7 +54,7 @@ fn parted(alloc: Global, texts: &[Text]) -> Result<String, Memory>
 
 /// `name {v1, v2} [default]`.
 fn param_line(alloc: Global, param: &Param) -> Result<String, Memory>
-    ensures { IfOk result (λ t. string_bytes t ≡ line_of_param param.now ++ codes "\n") }
+    ensures { IfOk result (λ t. string_bytes t ≡ PrintedLines.param_line param.now ++ codes "\n") }
 {
     let name = param.name.as_str();
     let values = parted(alloc, param.values.as_slice())?;
@@ -69,7 +69,7 @@ fn parted_values(
     number: u16,
     values: &[u16],
 ) -> Result<String, Memory>
-    ensures { IfOk result (λ t. string_bytes t ≡ with_commas (map (value_of params.now number) values.now)) }
+    ensures { IfOk result (λ t. string_bytes t ≡ PrintedLines.with_commas (map (PrintedLines.value_of params.now number) values.now)) }
 {
     let mut chosen = Vec::new(alloc);
     for value in values {
@@ -80,7 +80,7 @@ fn parted_values(
 
 /// `child | parent in {v1, v2}`.
 fn condition_line(alloc: Global, params: &[Param], condition: &Condition) -> Result<String, Memory>
-    ensures { IfOk result (λ t. string_bytes t ≡ line_of_condition params.now condition.now ++ codes "\n") }
+    ensures { IfOk result (λ t. string_bytes t ≡ PrintedLines.condition_line params.now condition.now ++ codes "\n") }
 {
     let child = name_at(params, condition.child);
     let parent = name_at(params, condition.parent);
@@ -90,7 +90,7 @@ fn condition_line(alloc: Global, params: &[Param], condition: &Condition) -> Res
 
 /// `name=value`.
 fn pick_text(alloc: Global, params: &[Param], pick: &Pick) -> Result<String, Memory>
-    ensures { IfOk result (λ t. string_bytes t ≡ text_of_pick params.now pick.now) }
+    ensures { IfOk result (λ t. string_bytes t ≡ PrintedLines.pick_text params.now pick.now) }
 {
     let name = name_at(params, pick.param);
     let value = value_at(params, pick.param, pick.value);
@@ -99,7 +99,7 @@ fn pick_text(alloc: Global, params: &[Param], pick: &Pick) -> Result<String, Mem
 
 /// The picks parted by a comma and a space.
 fn parted_picks(alloc: Global, params: &[Param], picks: &[Pick]) -> Result<String, Memory>
-    ensures { IfOk result (λ t. string_bytes t ≡ with_commas (map (text_of_pick params.now) picks.now)) }
+    ensures { IfOk result (λ t. string_bytes t ≡ PrintedLines.with_commas (map (PrintedLines.pick_text params.now) picks.now)) }
 {
     let mut pairs = Vec::new(alloc);
     for pick in picks {
@@ -110,7 +110,7 @@ fn parted_picks(alloc: Global, params: &[Param], picks: &[Pick]) -> Result<Strin
 
 /// `{name=value, name=value}`.
 fn clause_line(alloc: Global, params: &[Param], clause: &Forbidden) -> Result<String, Memory>
-    ensures { IfOk result (λ t. string_bytes t ≡ line_of_clause params.now clause.now ++ codes "\n") }
+    ensures { IfOk result (λ t. string_bytes t ≡ PrintedLines.clause_line params.now clause.now ++ codes "\n") }
 {
     let picks = parted_picks(alloc, params, clause.picks.as_slice())?;
     Ok(format!(in alloc; "{{{picks}}}\n")?)
@@ -118,7 +118,7 @@ fn clause_line(alloc: Global, params: &[Param], clause: &Forbidden) -> Result<St
 
 /// Appends the lines of the parameters; some of them where there is no memory left.
 fn push_params(alloc: Global, text: &mut String, params: &[Param]) -> Result<(), Memory>
-    ensures { OnOk result (string_bytes text.new ≡ string_bytes text.old ++ flat_map (λ p. line_of_param p ++ codes "\n") params.now) }
+    ensures { OnOk result (string_bytes text.new ≡ string_bytes text.old ++ flat_map (λ p. PrintedLines.param_line p ++ codes "\n") params.now) }
 {
     for param in params {
         text.push_str(param_line(alloc, param)?.as_str())?;
@@ -133,7 +133,7 @@ fn push_conditions(
     params: &[Param],
     conditions: &[Condition],
 ) -> Result<(), Memory>
-    ensures { OnOk result (string_bytes text.new ≡ string_bytes text.old ++ flat_map (λ c. line_of_condition params.now c ++ codes "\n") conditions.now) }
+    ensures { OnOk result (string_bytes text.new ≡ string_bytes text.old ++ flat_map (λ c. PrintedLines.condition_line params.now c ++ codes "\n") conditions.now) }
 {
     for condition in conditions {
         text.push_str(condition_line(alloc, params, condition)?.as_str())?;
@@ -148,7 +148,7 @@ fn push_clauses(
     params: &[Param],
     clauses: &[Forbidden],
 ) -> Result<(), Memory>
-    ensures { OnOk result (string_bytes text.new ≡ string_bytes text.old ++ flat_map (λ f. line_of_clause params.now f ++ codes "\n") clauses.now) }
+    ensures { OnOk result (string_bytes text.new ≡ string_bytes text.old ++ flat_map (λ f. PrintedLines.clause_line params.now f ++ codes "\n") clauses.now) }
 {
     for clause in clauses {
         text.push_str(clause_line(alloc, params, clause)?.as_str())?;
@@ -158,7 +158,7 @@ fn push_clauses(
 
 /// The lines of a space.
 fn space_text(alloc: Global, space: &Space) -> Result<String, Memory>
-    ensures value { IfOk result (λ t. string_bytes t ≡ printed space.now) }
+    ensures value { IfOk result (λ t. string_bytes t ≡ PrintedLines.space_text space.now) }
     ensures sound { IsSpace space.now }
 {
     let params = space.params();
@@ -173,9 +173,9 @@ fn space_text(alloc: Global, space: &Space) -> Result<String, Memory>
 /// line. A text of at most 2^24 bytes is read back as the space. After want of memory `out`
 /// is as it was.
 pub fn print_params(space: &Space, out: &mut Vec<u8>) -> Result<(), Memory>
-    ensures ok { OnOk result (out.new.items ≡ out.old.items ++ printed space.now) }
+    ensures ok { OnOk result (out.new.items ≡ out.old.items ++ PrintedLines.space_text space.now) }
     ensures err { OnErr result (out.new.items ≡ out.old.items) }
-    ensures reads_back { OnOk result (length (printed space.now) ≤ max_bytes → params_read (printed space.now) ≡ Ok space.now) }
+    ensures reads_back { OnOk result (length (PrintedLines.space_text space.now) ≤ max_bytes → params_read (PrintedLines.space_text space.now) ≡ Ok space.now) }
 {
     let text = space_text(*out.allocator(), space)?;
     out.extend_from_slice(text.as_str().as_bytes())?;

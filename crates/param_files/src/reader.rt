@@ -1,9 +1,10 @@
 //! The space that a parameter file states.
-ghost use Rattle.std.specs.Prelude.{◌≡◌, ◌^◌, ◌<◌, [], Ok, IfOk, IfErr, length};
-ghost use Rattle.plain_text.specs.Lines.{numbered_lines};
+ghost use Rattle.std.specs.Prelude.{◌≡◌, ◌^◌, ◌<◌, Ok, OnOk, IfOk, IfErr, length, option_map};
+ghost use Rattle.plain_text.specs.Faults.{in_line, IsFound};
 ghost use Rattle.param_space.specs.Faults.{space_fault};
-ghost use Rattle.param_files.specs.Reading.{in_line, line_stated, lines_read, lists_of, without_fault, params_read, IsReadingFault};
-ghost use Rattle.param_files.specs.Keeping.{AreKept};
+ghost use Rattle.param_files.specs.Faults.{fault_of};
+ghost use Rattle.param_files.specs.Reading.{line_stated, lists_of, breach_fault, without_fault, params_read};
+ghost use Rattle.param_files.specs.KeptStatements.{kept_line, kept_lines};
 
 use crate::faults::{ParamFault, ParamWhat, broken};
 use crate::forms::statement_of;
@@ -11,15 +12,15 @@ use crate::kept::Kept;
 use crate::numbering::{Numbered, all_by_numbers, line_of};
 use crate::statements::Statement;
 use param_space::{Param, Space, SpaceFault, SpaceWhat};
-use plain_text::{MAX_BYTES, lines, token_texts};
+use plain_text::{MAX_BYTES, numbered_lines, token_texts};
 use std::alloc::Global;
 use std::str;
 
 /// What a line states. Fails where it is no text or has none of the forms.
 #[tactic(auto, unfolding(crate::specs::Reading::line_stated))]
-fn stated(alloc: Global, line: u32, bytes: &[u8]) -> Result<Statement, ParamFault>
+fn statement_in(alloc: Global, line: u32, bytes: &[u8]) -> Result<Statement, ParamFault>
     ensures value { IfOk result (λ s. line_stated bytes.now ≡ Ok s) }
-    ensures fault { IfErr result (λ e. IsReadingFault e (in_line line (line_stated bytes.now))) }
+    ensures fault { IfErr result (λ e. IsFound (fault_of e) (in_line line (line_stated bytes.now))) }
 {
     let Ok(text) = str::from_utf8(bytes) else {
         return Err(ParamFault::At {
@@ -37,16 +38,26 @@ fn stated(alloc: Global, line: u32, bytes: &[u8]) -> Result<Statement, ParamFaul
     }
 }
 
+impl Kept {
+    /// Keeps what the line with this number states. Fails with the first rule that it breaks.
+    fn add_line(&mut self, alloc: Global, number: u32, bytes: &[u8]) -> Result<(), ParamFault>
+        ensures value { OnOk result (kept_line self.old number bytes.now ≡ Ok self.new) }
+        ensures fault { IfErr result (λ e. IsFound (fault_of e) (in_line number (kept_line self.old number bytes.now))) }
+    {
+        let statement = statement_in(alloc, number, bytes)?;
+        self.add(alloc, number, statement)
+    }
+}
+
 /// What is kept of a text's lines. Fails with the first fault of a line.
 fn read_lines(alloc: Global, text: &[u8]) -> Result<Kept, ParamFault>
     requires { length text.now < 2 ^ 32 }
-    ensures value { IfOk result (λ k. AreKept (lines_read [] (numbered_lines text.now)) k) }
-    ensures fault { IfErr result (λ e. IsReadingFault e (lines_read [] (numbered_lines text.now))) }
+    ensures value { IfOk result (λ k. kept_lines text.now ≡ Ok k) }
+    ensures fault { IfErr result (λ e. IsFound (fault_of e) (kept_lines text.now)) }
 {
     let mut kept = Kept::new(alloc);
-    for line in lines(text) {
-        let statement = stated(alloc, line.number, &text[line.start..line.end])?;
-        kept.add(alloc, line.number, statement)?;
+    for line in numbered_lines(text) {
+        kept.add_line(alloc, line.number, line.bytes)?;
     }
     Ok(kept)
 }
@@ -54,8 +65,8 @@ fn read_lines(alloc: Global, text: &[u8]) -> Result<Kept, ParamFault>
 /// The space of these lists. Fails with the first rule of a space that they break, in its
 /// line.
 fn space_of(alloc: Global, params: Vec<Param>, numbered: Numbered) -> Result<Space, ParamFault>
-    ensures value { IfOk result (λ s. without_fault numbered (lists_of params.items numbered) (space_fault (lists_of params.items numbered)) ≡ Ok s) }
-    ensures fault { IfErr result (λ e. IsReadingFault e (without_fault numbered (lists_of params.items numbered) (space_fault (lists_of params.items numbered)))) }
+    ensures value { IfOk result (λ s. without_fault (option_map (λ b. breach_fault numbered b.part b.place b.what) (space_fault (lists_of params.items numbered))) (lists_of params.items numbered) ≡ Ok s) }
+    ensures fault { IfErr result (λ e. IsFound (fault_of e) (without_fault (option_map (λ b. breach_fault numbered b.part b.place b.what) (space_fault (lists_of params.items numbered))) (lists_of params.items numbered))) }
 {
     let Numbered {
         conditions,
@@ -86,7 +97,7 @@ fn space_of(alloc: Global, params: Vec<Param>, numbered: Numbered) -> Result<Spa
 #[tactic(auto, unfolding(crate::specs::Reading::params_read))]
 pub fn read_params(alloc: Global, text: &[u8]) -> Result<Space, ParamFault>
     ensures value { IfOk result (λ s. params_read text.now ≡ Ok s) }
-    ensures fault { IfErr result (λ e. IsReadingFault e (params_read text.now)) }
+    ensures fault { IfErr result (λ e. IsFound (fault_of e) (params_read text.now)) }
 {
     if text.len() > MAX_BYTES {
         return Err(broken(0, SpaceWhat::TooMany));

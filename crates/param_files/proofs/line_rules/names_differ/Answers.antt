@@ -1,6 +1,6 @@
 use Rattle.std.proofs.Common.{◌+◌, sym, ◌∙◌, ap, not, ◌&&◌}
-use Rattle.param_space.specs.Faults.{texts_differ}
-use Rattle.param_files.proofs.Differ.{names_from, names_step}
+use Rattle.plain_text.specs.Texts.{texts_differ}
+use Rattle.param_files.proofs.PickNames.{names_from, names_step}
 use Rattle.param_files.proofs.line_rules.names_differ.Goals as goal
 
 pub returns-then-has_pick : goal.returns-then-has_pick

@@ -1,5 +1,5 @@
 use Rattle.std.proofs.Common.{◌≡◌, map, drop}
-use Rattle.param_space.specs.Faults.{texts_differ}
+use Rattle.plain_text.specs.Texts.{texts_differ}
 use Rattle.param_files.proofs.line_rules.names_differ.Given as goal
 
 -- it is left to see whether the later names differ

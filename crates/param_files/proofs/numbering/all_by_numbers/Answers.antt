@@ -1,9 +1,9 @@
 use Rattle.std.proofs.Common.{ap, sym, ◌∙◌}
 use Rattle.std.proofs.lemmas.Result.{err_from_is_err_and}
 use Rattle.param_files.specs.Reading.{all_numbered}
-use Rattle.param_files.specs.Keeping.{numbered_with}
+use Rattle.param_files.specs.KeptStatements.{numbered_with}
 use Rattle.param_files.proofs.ByNumbers.{after_numbers, numbers_none, numbers_more, numbers_stops, numbers_all}
-use Rattle.param_files.proofs.Readings.{fault_moves}
+use Rattle.plain_text.proofs.LineFoldLemmas.{fault_moves}
 use Rattle.param_files.proofs.numbering.all_by_numbers.Goals as goal
 
 pub loop-line-init : goal.loop-line-init

@@ -1,7 +1,7 @@
 use Rattle.std.proofs.Common.{◌∙◌, ap, map}
 use Rattle.std.specs.Prelude.{string_bytes}
-use Rattle.param_files.specs.Printing.{with_commas, pick_text}
-use Rattle.param_files.proofs.Printed.{clause_text}
+use Rattle.param_files.specs.PrintedLines.{with_commas, pick_text}
+use Rattle.param_files.proofs.LineFormats.{clause_text}
 use Rattle.param_files.proofs.printer.clause_line.Goals as goal
 
 pub returns : goal.returns

@@ -1,7 +1,7 @@
 use Rattle.std.proofs.Common.{◌∙◌, ap}
 use Rattle.std.specs.Prelude.{string_bytes, [], slice_index_or}
-use Rattle.param_files.specs.Printing.{with_commas}
-use Rattle.param_files.proofs.Printed.{param_text}
+use Rattle.param_files.specs.PrintedLines.{with_commas}
+use Rattle.param_files.proofs.LineFormats.{param_text}
 use Rattle.param_files.proofs.printer.param_line.Goals as goal
 
 pub returns : goal.returns

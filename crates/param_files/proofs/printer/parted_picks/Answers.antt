@@ -1,6 +1,6 @@
 use Rattle.std.proofs.Common.{◌∙◌, ap, map, take_all}
 use Rattle.std.specs.Prelude.{string_bytes}
-use Rattle.param_files.specs.Printing.{pick_text}
+use Rattle.param_files.specs.PrintedLines.{pick_text}
 use Rattle.param_files.proofs.Commas.{joined}
 use Rattle.param_files.proofs.printer.parted_picks.Goals as goal
 

@@ -1,6 +1,6 @@
 use Rattle.std.proofs.Common.{◌≡◌, map, take}
 use Rattle.std.specs.Prelude.{string_bytes}
-use Rattle.param_files.specs.Printing.{pick_text}
+use Rattle.param_files.specs.PrintedLines.{pick_text}
 use Rattle.param_files.proofs.printer.parted_picks.Given as goal
 
 -- the picks so far are paired

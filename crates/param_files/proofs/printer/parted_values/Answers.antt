@@ -1,5 +1,5 @@
 use Rattle.std.proofs.Common.{◌∙◌, ap, map, take_all}
-use Rattle.param_files.specs.Printing.{value_of}
+use Rattle.param_files.specs.PrintedLines.{value_of}
 use Rattle.param_files.proofs.Commas.{joined}
 use Rattle.param_files.proofs.printer.parted_values.Goals as goal
 

@@ -1,5 +1,5 @@
 use Rattle.std.proofs.Common.{◌≡◌, map, take}
-use Rattle.param_files.specs.Printing.{value_of}
+use Rattle.param_files.specs.PrintedLines.{value_of}
 use Rattle.param_files.proofs.printer.parted_values.Given as goal
 
 -- the values so far are chosen

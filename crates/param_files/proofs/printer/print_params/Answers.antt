@@ -1,7 +1,7 @@
 use Rattle.std.proofs.Common.{subst}
 use Rattle.std.specs.Prelude.{IsUtf8}
 use Rattle.std.proofs.lemmas.Str.{IsUtf8-string_bytes}
-use Rattle.param_files.specs.ReadingBack.{reads_back}
+use Rattle.param_files.proofs.RoundTrip.{reads_back}
 use Rattle.param_files.proofs.printer.print_params.Goals as goal
 
 -- the text is UTF-8, since it is a String

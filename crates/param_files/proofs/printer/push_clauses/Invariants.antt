@@ -1,7 +1,7 @@
 use Rattle.std.proofs.Common.{◌≡◌, ◌++◌, take}
 use Rattle.std.specs.Prelude.{string_bytes}
 use Rattle.std.specs.List.{flat_map}
-use Rattle.param_files.specs.Printing.{clause_line}
+use Rattle.param_files.specs.PrintedLines.{clause_line}
 use Rattle.param_files.proofs.Commas.{ended}
 use Rattle.param_files.proofs.printer.push_clauses.Given as goal
 

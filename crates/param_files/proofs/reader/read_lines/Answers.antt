@@ -1,53 +1,25 @@
-use Rattle.std.proofs.Common.{◌≡◌, ◌∙◌}
-use Rattle.std.proofs.lemmas.List.Elements.{All-same, All-rest}
+use Rattle.std.proofs.Common.{◌∙◌}
 use Rattle.std.proofs.lemmas.Result.{err_from_is_err_and}
-use Rattle.plain_text.specs.Lines.{lines}
-use Rattle.plain_text.specs.LinePlaces.{IsLineWithin, lines_within}
-use Rattle.param_files.specs.Reading.{in_line, line_stated}
-use Rattle.param_files.specs.Keeping.{kept_with}
-use Rattle.param_files.proofs.Readings.{fault_moves}
-use Rattle.param_files.proofs.KeptLines.{bytes_of, read_none, read_all, read_more, read_stops, rule_stops}
+use Rattle.plain_text.specs.Lines.{numbered_lines}
+use Rattle.plain_text.proofs.LineFoldLemmas.{fold-none, fold-all, fold-more, fold-stops}
+use Rattle.param_files.specs.Faults.{fault_of}
+use Rattle.param_files.specs.KeptStatements.{kept_of, kept_line, kept_lines}
 use Rattle.param_files.proofs.reader.read_lines.Goals as goal
 
 pub loop-line-init : goal.loop-line-init
 loop-line-init c =
-    let text = c.args.text.now in
-    let left = c.into_iter-line-iterator.result in
-    let same : left ≡ lines text = c.into_iter-line-iterator.ensures.into_iter_gives ∙ c.lines-line-items.ensures in
-    record {
-      within = All-same (IsLineWithin text) left (lines text) same (lines_within text);
-      read = read_none text c.new-kept.result left c.new-kept.ensures same;
-    }
-
-pub returns-in_err-statement-clause-fault : goal.returns-in_err-statement-clause-fault
-returns-in_err-statement-clause-fault c =
-    let text = c.args.text.now in
-    let line = c.in-Some.line in
-    let p = err_from_is_err_and c.from_residual.result c.from_residual.ensures.1 in
-    rw (p.1, p.2)
-    (fault_moves _ (in_line line.number (line_stated (bytes_of text line))) _
-    (λ f h. read_stops text c.loop-line.kept line c.loop-line.line-iterator c.next.new.self f c.loop-line.invariant.read c.in-Some.ensures.steps h)
-    c.in_err-statement.ensures.fault)
+    fold-none kept_line _ c.new-kept.result (numbered_lines c.args.text.now) c.into_iter-line-iterator.result c.new-kept.ensures (c.into_iter-line-iterator.ensures.into_iter_gives ∙ c.numbered_lines-line-items.ensures)
 
 pub loop-line-preserved : goal.loop-line-preserved
 loop-line-preserved c =
-    let text = c.args.text.now in
     let line = c.in-Some.line in
-    let steps = c.in-Some.ensures.steps in
-    record {
-      within = All-rest (IsLineWithin text) line c.next.new.self c.loop-line.line-iterator steps c.loop-line.invariant.within;
-      read = read_more text c.loop-line.kept c.add.new.self line c.loop-line.line-iterator c.next.new.self c.in_ok-statement.statement c.loop-line.invariant.read steps c.in_ok-statement.ensures.value c.in_ok-add.ensures.value;
-    }
+    fold-more kept_line (kept_lines c.args.text.now) c.loop-line.kept c.add_line.new.self line.number line.bytes.now c.loop-line.line-iterator c.next.new.self c.loop-line.invariant c.in-Some.ensures.steps c.in_ok-add_line.ensures.value
 
-pub returns-in_err-add-clause-fault : goal.returns-in_err-add-clause-fault
-returns-in_err-add-clause-fault c =
-    let text = c.args.text.now in
+pub returns-in_err-add_line-clause-fault : goal.returns-in_err-add_line-clause-fault
+returns-in_err-add_line-clause-fault c =
     let line = c.in-Some.line in
-    let p = err_from_is_err_and c.from_residual-in_err-add.result c.from_residual-in_err-add.ensures.1 in
-    rw (p.1, p.2)
-    (fault_moves _ (kept_with c.loop-line.kept line.number c.in_ok-statement.statement) _
-    (λ f h. rule_stops text c.loop-line.kept line c.loop-line.line-iterator c.next.new.self c.in_ok-statement.statement f c.loop-line.invariant.read c.in-Some.ensures.steps c.in_ok-statement.ensures.value h)
-    c.in_err-add.ensures.fault)
+    let p = err_from_is_err_and c.from_residual.result c.from_residual.ensures.1 in
+    rw (p.1, p.2) (fold-stops kept_line _ (kept_lines c.args.text.now) c.loop-line.kept line.number line.bytes.now c.loop-line.line-iterator c.next.new.self c.loop-line.invariant c.in-Some.ensures.steps c.in_err-add_line.ensures.fault)
 
 pub returns-clause-value : goal.returns-clause-value
-returns-clause-value c = read_all c.args.text.now c.loop-line.kept c.loop-line.line-iterator c.in-None.ensures.steps.0 c.loop-line.invariant.read
+returns-clause-value c = fold-all kept_line (kept_lines c.args.text.now) c.loop-line.kept c.loop-line.line-iterator c.loop-line.invariant c.in-None.ensures.steps.0

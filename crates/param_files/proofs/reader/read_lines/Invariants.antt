@@ -1,11 +1,8 @@
-use Rattle.std.specs.Prelude.{All}
-use Rattle.plain_text.specs.LinePlaces.{IsLineWithin}
-use Rattle.param_files.proofs.KeptLines.{HasRead}
+use Rattle.std.proofs.Common.{◌≡◌}
+use Rattle.plain_text.specs.LineFolds.{fold_lines}
+use Rattle.param_files.specs.KeptStatements.{kept_line, kept_lines}
 use Rattle.param_files.proofs.reader.read_lines.Given as goal
 
--- what is kept of the lines so far
+-- the lines that are left make the whole of what is kept
 abbrev pub invariant-loop-line : goal.invariant-loop-line
-invariant-loop-line l = record {
-  within : All (IsLineWithin l.text) l.line-iterator;
-  read : HasRead l.text l.kept l.line-iterator;
-}
+invariant-loop-line l = kept_lines l.text ≡ fold_lines kept_line l.kept l.line-iterator

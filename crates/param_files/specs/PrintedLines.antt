@@ -1,0 +1,48 @@
+-- A space as the text of a parameter file.
+use Rattle.std.specs.Prelude.{ℕ, List, [], ◌∷◌, ◌++◌, map, codes}
+use Rattle.std.specs.List.{flat_map, slice_index_or}
+use Rattle.param_space.specs.declared.lists.Param.{Param}
+use Rattle.param_space.specs.declared.lists.Condition.{Condition}
+use Rattle.param_space.specs.declared.lists.Pick.{Pick}
+use Rattle.param_space.specs.declared.lists.Forbidden.{Forbidden}
+use Rattle.param_space.specs.Space.{Lists}
+
+-- texts parted by a comma and a space
+abbrev pub with_commas : List (List ℕ) → List ℕ
+with_commas [] = []
+with_commas (t ∷ []) = t
+with_commas (t ∷ u ∷ later) = t ++ (codes ", " ++ with_commas (u ∷ later))
+
+-- the name of the parameter with this number
+abbrev pub name_of : List Param → ℕ → List ℕ
+name_of params p = slice_index_or (map (λ q. q.name) params) p []
+
+-- a value of the parameter with this number
+abbrev pub value_of : List Param → ℕ → ℕ → List ℕ
+value_of params p v = slice_index_or (slice_index_or (map (λ q. q.values) params) p []) v []
+
+-- `name {v1, v2} [default]`
+unfoldable pub param_line : Param → List ℕ
+param_line p = p.name ++ (codes " {" ++ (with_commas p.values ++ (codes "} [" ++ (slice_index_or p.values p.default [] ++ codes "]"))))
+
+-- `child | parent in {v1, v2}`
+unfoldable pub condition_line : List Param → Condition → List ℕ
+condition_line params c =
+    name_of params c.child ++ (codes " | " ++ (name_of params c.parent ++ (codes " in {"
+    ++ (with_commas (map (value_of params c.parent) c.values) ++ codes "}"))))
+
+-- `name=value`
+abbrev pub pick_text : List Param → Pick → List ℕ
+pick_text params k = name_of params k.param ++ (codes "=" ++ value_of params k.param k.value)
+
+-- `{name=value, name=value}`
+unfoldable pub clause_line : List Param → Forbidden → List ℕ
+clause_line params f = codes "{" ++ (with_commas (map (pick_text params) f.picks) ++ codes "}")
+
+-- the lines of a space: its parameters, its conditions, its clauses
+abbrev pub space_lines : Lists → List (List ℕ)
+space_lines lists = map param_line lists.params ++ (map (condition_line lists.params) lists.conditions ++ map (clause_line lists.params) lists.forbidden)
+
+-- the lines of a space, each ended by a line feed
+abbrev pub space_text : Lists → List ℕ
+space_text lists = flat_map (λ line. line ++ codes "\n") (space_lines lists)
