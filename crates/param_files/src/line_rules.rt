@@ -8,7 +8,9 @@ ghost use Rattle.param_files.specs.Reading.{parameter_rules, condition_rules, cl
 
 use crate::statements::NamedPick;
 use objective::Memory;
-use param_space::{MAX_CLAUSES, MAX_CONDITIONS, MAX_PARAMS, MAX_PICKS, MAX_VALUES, Param, SpaceWhat};
+use param_space::{
+    MAX_CLAUSES, MAX_CONDITIONS, MAX_PARAMS, MAX_PICKS, MAX_VALUES, Param, SpaceWhat,
+};
 use plain_text::{Text, has_text, texts_differ};
 use std::alloc::Global;
 

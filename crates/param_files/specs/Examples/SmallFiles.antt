@@ -3,7 +3,6 @@ use Rattle.std.specs.Prelude.{ℕ, ◌≡◌, List, [], ◌∷◌, Ok, Err, refl
 use Rattle.param_space.specs.declared.lists.SpaceWhat.TheVariants as what
 use Rattle.param_space.specs.Space.{Lists}
 use Rattle.std.specs.Str.{is_utf8, chars}
-use Rattle.plain_text.specs.Faults.{LineFault}
 use Rattle.plain_text.specs.LineFolds.{fold_lines}
 use Rattle.plain_text.specs.Lines.{numbered_lines, numbered_from, lines_among}
 use Rattle.plain_text.specs.Tokens.{token_texts, texts_after}

@@ -2,8 +2,7 @@ use Rattle.std.proofs.Common.{◌∙◌}
 use Rattle.std.proofs.lemmas.Result.{err_from_is_err_and}
 use Rattle.plain_text.specs.Lines.{numbered_lines}
 use Rattle.plain_text.proofs.LineFoldLemmas.{fold-none, fold-all, fold-more, fold-stops}
-use Rattle.param_files.specs.Faults.{fault_of}
-use Rattle.param_files.specs.KeptStatements.{kept_of, kept_line, kept_lines}
+use Rattle.param_files.specs.KeptStatements.{kept_line, kept_lines}
 use Rattle.param_files.proofs.reader.read_lines.Goals as goal
 
 pub loop-line-init : goal.loop-line-init

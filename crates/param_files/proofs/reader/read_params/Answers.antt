@@ -1,4 +1,4 @@
-use Rattle.std.proofs.Common.{ℕ, ◌≡◌, ◌<◌, Ok, length, option_map, ◌∙◌, sym, ap, arith}
+use Rattle.std.proofs.Common.{◌≡◌, ◌<◌, Ok, length, option_map, ◌∙◌, sym, ap, arith}
 use Rattle.std.proofs.lemmas.Bool.{eqb-true, eqb-false}
 use Rattle.std.proofs.lemmas.List.{nil_from_length}
 use Rattle.std.proofs.lemmas.Result.{err_from_is_err_and, IfOk-weaker, IfErr-weaker}
@@ -8,7 +8,6 @@ use Rattle.param_space.specs.Space.{Lists}
 use Rattle.param_space.specs.Faults.{space_fault}
 use Rattle.param_files.specs.Faults.{fault_of}
 use Rattle.param_files.specs.Reading.{lists_of, breach_fault, without_fault, params_read}
-use Rattle.param_files.specs.KeptStatements.{kept_lines}
 use Rattle.param_files.proofs.Wholes.{lines_fault, kept_few, none_kept, numbers_fault, space_found}
 use Rattle.param_files.proofs.reader.read_params.Goals as goal
 
