@@ -1,4 +1,4 @@
--- A configuration has at most 65,536 neighbours.
+-- A configuration has no more neighbours than there may be values in all.
 use Rattle.std.proofs.Common.{ℕ, suc, ◌*◌, ◌≡◌, ◌<◌, ◌≤◌, ◌==◌, not, Bool, true, false, cond, List, [], ◌∷◌, length, arith, length-append}
 use Rattle.std.specs.Prelude.{slice_index}
 use Rattle.std.specs.List.{All, filter, flat_map, range_with_len}
@@ -7,6 +7,7 @@ use Rattle.std.proofs.lemmas.List.Elements.{All-head, All-tail, All-filter, All-
 use Rattle.std.proofs.lemmas.List.FromFn.{length-range_with_len}
 use Rattle.param_space.specs.declared.lists.Param.{Param}
 use Rattle.param_space.specs.Space.{Lists, value_count}
+use Rattle.param_space.specs.Limits.{max_params, max_values}
 use Rattle.param_space.specs.Faults.{IsSpace}
 use Rattle.param_space.proofs.SpaceSizes.{few_values, few_params}
 use Rattle.param_space.specs.Configurations.{is_active, is_allowed}
@@ -30,7 +31,7 @@ joined f most (x ∷ xs) h =
     let later : length (flat_map f xs) ≤ most * length xs = joined f most xs (All-tail (λ x. length (f x) ≤ most) x xs h) in
     omega (arith, first, later, length-append (f x) (flat_map f xs))
 
-few_exchanges : (lists : Lists) → IsSpace lists → (θ : List ℕ) (p : ℕ) → p < length lists.params → length (exchanges lists θ p) ≤ 256
+few_exchanges : (lists : Lists) → IsSpace lists → (θ : List ℕ) (p : ℕ) → p < length lists.params → length (exchanges lists θ p) ≤ max_values
 few_exchanges lists space θ p lt =
     let count : value_count lists.params p ≡ _ = get_or-map (λ (q : Param). length q.values) lists.params p no_param 0 lt in
     let few = few_values lists.params p no_param space.params lt in
@@ -39,14 +40,14 @@ few_exchanges lists space θ p lt =
     let same = length-map (other_values lists.params θ p) (exchange_of lists θ p) in
     omega (arith, count, few, all, some, same)
 
--- at most 256 parameters with at most 256 values each
-pub few_neighbours : (lists : Lists) → IsSpace lists → (θ : List ℕ) → length (neighbours_of lists θ) ≤ 65536
+-- at most so many parameters with at most so many values each
+pub few_neighbours : (lists : Lists) → IsSpace lists → (θ : List ℕ) → length (neighbours_of lists θ) ≤ max_params * max_values
 unfolding neighbours_of
 few_neighbours lists space θ =
     let count : ℕ = length lists.params in
     let below = All-filter (is_active lists θ) (λ p. p < count) (range_with_len 0 count) (range_below count 0 count (omega arith)) in
-    let each = All-weaker (λ p. p < count) (λ p. length (exchanges lists θ p) ≤ 256) (λ p less. few_exchanges lists space θ p less) (active_params lists θ) below in
-    let all = joined (exchanges lists θ) 256 (active_params lists θ) each in
+    let each = All-weaker (λ p. p < count) (λ p. length (exchanges lists θ p) ≤ max_values) (λ p less. few_exchanges lists space θ p less) (active_params lists θ) below in
+    let all = joined (exchanges lists θ) max_values (active_params lists θ) each in
     let active = kept (is_active lists θ) (range_with_len 0 count) in
     let numbers = length-range_with_len 0 count in
     let few = few_params lists.params space.params in

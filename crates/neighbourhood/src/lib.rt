@@ -2,9 +2,10 @@
 //! given each of its other values.
 #![tactic(auto)]
 
-ghost use Rattle.std.specs.Prelude.{All, ◌≡◌, ◌<◌, ◌≤◌, ◌++◌, ◌∷◌, [], IfOk, OnOk, length};
+ghost use Rattle.std.specs.Prelude.{All, ◌≡◌, ◌*◌, ◌<◌, ◌≤◌, ◌++◌, ◌∷◌, [], IfOk, OnOk, length};
 ghost use Rattle.std.specs.List.{filter};
 ghost use Rattle.param_space.specs.Space.{Belongs, value_count};
+ghost use Rattle.param_space.specs.Limits;
 ghost use Rattle.param_space.specs.Faults.{IsSpace};
 ghost use Rattle.param_space.specs.Configurations.{is_allowed, IsConfig};
 ghost use Rattle.neighbourhood.specs.Neighbours.{exchange_of, exchanges, neighbours_of};
@@ -80,7 +81,7 @@ pub fn neighbours(alloc: Global, space: &Space, config: &Config) -> Result<Vec<C
     requires { Belongs space.now.params config.now }
     ensures value { IfOk result (λ v. v.items ≡ neighbours_of space.now config.now) }
     ensures sound { IfOk result (λ v. All (IsConfig space.now) v.items) }
-    ensures few { IfOk result (λ v. length v.items ≤ 65536) }
+    ensures few { IfOk result (λ v. length v.items ≤ Limits.max_params * Limits.max_values) }
 {
     let mut found = Vec::new(alloc);
     for param in 0..param_count(space) {

@@ -2,6 +2,7 @@
 use Rattle.std.proofs.Common.{ℕ, zero, suc, ◌≡◌, ◌<◌, ◌≤◌, None, ◌+◌, ◌*◌, ◌%◌, true, false, List, [], ◌∷◌, ◌++◌, length, take, get_or, sym, ap, subst, ◌∙◌, arith, add-one}
 use Rattle.param_space.specs.declared.lists.Param.{Param}
 use Rattle.param_space.specs.Space.{Lists, defaults, Belongs}
+use Rattle.param_space.specs.Limits.{max_values}
 use Rattle.param_space.specs.Faults.{params_fault, IsSpace}
 use Rattle.param_space.specs.Configurations.{settled_config, is_allowed}
 use Rattle.rand_pcg.specs.Lcg.{Lcg}
@@ -11,11 +12,11 @@ use Rattle.seeded_order.proofs.Streams.{next_word_is}
 use Rattle.seeded_order.proofs.ParamValues.{HasValues, All-HasValues}
 use Rattle.seeded_order.proofs.RandomConfigs.{Belongs-values_of}
 
--- the parameter that a loop reads has one to 256 values
-pub read_has_values : (params : List Param) (i : ℕ) (p : Param) (texts : List (List ℕ)) → params_fault params ≡ None → i < length params → p ≡ get_or params i p → texts ≡ p.values → (0 < length texts) × (length texts ≤ 256)
+-- the parameter that a loop reads has a value, and no more than there may be
+pub read_has_values : (params : List Param) (i : ℕ) (p : Param) (texts : List (List ℕ)) → params_fault params ≡ None → i < length params → p ≡ get_or params i p → texts ≡ p.values → (0 < length texts) × (length texts ≤ max_values)
 read_has_values params i p texts sound lt is e =
     let has : HasValues p = subst HasValues (sym is) (All-HasValues params sound i p lt) in
-    (subst (λ ts. 0 < length ts) (sym e) has.some, subst (λ ts. length ts ≤ 256) (sym e) has.few)
+    (subst (λ ts. 0 < length ts) (sym e) has.some, subst (λ ts. length ts ≤ max_values) (sym e) has.few)
 
 -- one value more
 pub more_values : (seed stream k : ℕ) (params : List Param) (i : ℕ) (d : Param) → i < length params

@@ -1,4 +1,5 @@
 use Rattle.std.proofs.Common.{◌≤◌, ◌<◌, length, arith}
+use Rattle.param_space.specs.Limits.{max_values}
 use Rattle.seeded_order.proofs.Attempts.{read_has_values, more_drawn}
 use Rattle.seeded_order.proofs.values.drawn_config.Goals as goal
 
@@ -10,7 +11,7 @@ pub overflow_cast-next_word-in-loop-param : goal.overflow_cast-next_word-in-loop
 overflow_cast-next_word-in-loop-param c =
     let has = read_has_values c.args.params.now c.loop-param.param-index c.param-item.result c.as_slice-count.result.now c.requires c.loop-param-test.true c.param-item.is c.as_slice-count.ensures in
     let some : 0 < length c.as_slice-count.result.now = has.0 in
-    let few : length c.as_slice-count.result.now ≤ 256 = has.1 in
+    let few : length c.as_slice-count.result.now ≤ max_values = has.1 in
     omega arith
 
 pub loop-param-preserved : goal.loop-param-preserved
