@@ -1,2 +1,4 @@
-pub mod Readings
-pub mod Places
+mod InstanceCounts
+mod LineInstances
+mod Places
+mod Rounds

@@ -5,7 +5,7 @@ use Rattle.scenario_files.specs.declared.draft.PairOrder.{PairOrder}
 use Rattle.instance_pairs.specs.declared.instances.Instance.{Instance}
 use Rattle.instance_pairs.specs.declared.spots.Spot.{Spot}
 use Rattle.instance_pairs.specs.Pairs.{number_at, spot_at, instance_at, AreSpots}
-use Rattle.instance_pairs.specs.Spots.{number_below, spot_is}
+use Rattle.instance_pairs.proofs.Rounds.{number_below, spot_is}
 
 -- the spot that is read for a place
 pub spot_read : (order : PairOrder) (seed count max_runs : ℕ) (spots read : List Spot) (place : ℕ) (d : Spot) → AreSpots order seed count max_runs spots → read ≡ spots → 1 ≤ place → place ≤ max_runs

@@ -1,5 +1,5 @@
-pub mod Reading
-pub mod Counts
+pub mod Limits
+pub mod Faults
+pub mod Files
 pub mod Pairs
-pub mod Spots
-pub mod Example
+pub mod Examples

@@ -1,11 +1,13 @@
 -- The pair of each place: an instance and a seed.
 use Rattle.std.specs.Prelude.{ℕ, ◌≡◌, ◌≤◌, ◌+◌, ◌-◌, ◌*◌, ◌/◌, ◌%◌, Bool, List, [], length, map, min, slice_index, slice_index_or, if◌then◌else◌}
 use Rattle.std.specs.List.{range_with_len}
+use Rattle.objective.specs.Limits
 use Rattle.scenario_files.specs.declared.draft.PairOrder.{PairOrder}
 use Rattle.scenario_files.specs.declared.draft.PairOrder.TheVariants.{Shuffled, File}
 use Rattle.seeded_order.specs.Draws.{word_of, order_of}
 use Rattle.instance_pairs.specs.declared.instances.Instance.{Instance}
 use Rattle.instance_pairs.specs.declared.spots.Spot.{Spot}
+use Rattle.instance_pairs.specs.Limits.{max_instances}
 
 -- what pairs are made of
 pub record Plan : Type 0 where
@@ -15,12 +17,12 @@ pub record Plan : Type 0 where
   pub order : PairOrder
   pub max_runs : ℕ
 
--- 1 to 100,000 instances and 1 to 10,000 runs
+-- the numbers of instances and runs that there may be
 pub record AreInRange (count max_runs : ℕ) : Type 0 where
   pub some : 1 ≤ count
-  pub few : count ≤ 100000
+  pub few : count ≤ max_instances
   pub one : 1 ≤ max_runs
-  pub most : max_runs ≤ 10000
+  pub most : max_runs ≤ Limits.max_runs
 
 -- so many runs as are wanted; where they are deterministic, no more than there are instances
 abbrev pub max_runs_of : Bool → ℕ → ℕ → ℕ
@@ -43,10 +45,14 @@ abbrev pub number_at : PairOrder → ℕ → ℕ → ℕ → ℕ
 number_at File seed count place = position_of count place
 number_at Shuffled seed count place = slice_index (order_of seed (stream_of count place) count) (position_of count place)
 
+-- how many seeds a word may give
+abbrev pub seed_count : ℕ
+seed_count = 2147483648
+
 -- the seed of a place: in file order the place; shuffled a word of the round's stream after those of the order
 abbrev pub seed_at : PairOrder → ℕ → ℕ → ℕ → ℕ
 seed_at File seed count place = place
-seed_at Shuffled seed count place = word_of seed (stream_of count place) (count + position_of count place) % 2147483648
+seed_at Shuffled seed count place = word_of seed (stream_of count place) (count + position_of count place) % seed_count
 
 -- the instance and the seed of a place
 pub record Drawn : Type 0 where

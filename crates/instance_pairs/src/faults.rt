@@ -1,7 +1,7 @@
 //! Why a text is no instance file.
 
 ghost use Rattle.std.specs.Prelude.{◌≡◌};
-ghost use Rattle.instance_pairs.specs.declared.faults.InstanceFault.TheVariants.{Memory as NoMemory};
+ghost use Rattle.instance_pairs.specs.declared.faults.InstanceFault.TheVariants;
 
 use objective::Memory;
 use std::alloc::AllocFailed;
@@ -35,7 +35,7 @@ pub enum InstanceFault {
 }
 
 impl From<Memory> for InstanceFault {
-    ghost from_gives = { λ _ fault. fault ≡ NoMemory };
+    ghost from_gives = { λ _ fault. fault ≡ TheVariants.Memory };
 
     fn from(_e: Memory) -> InstanceFault {
         InstanceFault::Memory
@@ -43,7 +43,7 @@ impl From<Memory> for InstanceFault {
 }
 
 impl<T: Drop> From<AllocFailed<T>> for InstanceFault {
-    ghost from_gives = { λ _ fault. fault ≡ NoMemory };
+    ghost from_gives = { λ _ fault. fault ≡ TheVariants.Memory };
 
     fn from(_e: AllocFailed<T>) -> InstanceFault {
         InstanceFault::Memory

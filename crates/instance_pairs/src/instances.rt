@@ -1,9 +1,9 @@
 //! The instance that a line names.
 ghost use Rattle.std.specs.Prelude.{◌≡◌, IfOk};
-ghost use Rattle.instance_pairs.specs.Reading.{instance_of as instance_in, or_zero as zero_for_nothing};
+ghost use Rattle.instance_pairs.specs.Files;
 
 use objective::Memory;
-use plain_text::{Items, Text, after_word, end_trimmed, first_word, front_trimmed};
+use plain_text::{Copied, Text, after_word, end_trimmed, first_word, front_trimmed};
 use std::alloc::Global;
 
 /// An instance that configurations are run on.
@@ -27,28 +27,23 @@ impl Instance {
     }
 }
 
-/// The same instances.
-pub(crate) fn copied_instances(instances: &Items<Instance>) -> Result<Items<Instance>, Memory>
-    ensures { IfOk result (λ v. v ≡ instances.now) }
-{
-    let mut copied = Vec::new(*instances.allocator());
-    for instance in instances.as_slice() {
-        copied.push(instance.copy()?)?;
+impl Copied for Instance {
+    fn copied(&self) -> Result<Instance, Memory> {
+        self.copy()
     }
-    Ok(Items::new(copied))
 }
 
 /// The text, or `0` where it is empty.
 fn or_zero(text: &str) -> &str
-    ensures { result.now ≡ zero_for_nothing text.now }
+    ensures { result.now ≡ Files.or_zero text.now }
 {
     if text.is_empty() { "0" } else { text }
 }
 
 /// The instance of a line. None exactly where it has blanks alone.
-#[tactic(auto, unfolding(crate::specs::Reading::instance_of))]
+#[tactic(auto, unfolding(crate::specs::Files::instance_of))]
 pub(crate) fn instance_of(alloc: Global, line: &str) -> Result<Option<Instance>, Memory>
-    ensures { IfOk result (λ i. i ≡ instance_in line.now) }
+    ensures { IfOk result (λ i. i ≡ Files.instance_of line.now) }
 {
     let text = front_trimmed(line);
     if text.is_empty() {

@@ -11,13 +11,13 @@
 
 mod faults;
 mod instances;
+mod limits;
 mod pairs;
 mod reader;
 mod spots;
-#[cfg(test)]
-mod tests;
 
 pub use faults::{InstanceFault, InstanceWhat};
 pub use instances::Instance;
+pub use limits::MAX_INSTANCES;
 pub use pairs::{Pair, Pairs};
 pub use reader::read_instances;

@@ -1,8 +1,10 @@
 //! The pairs that configurations are run on.
 ghost use Rattle.std.specs.Prelude.{◌≡◌, ◌≤◌, ◌<◌, IfOk, length};
+ghost use Rattle.objective.specs.Limits;
+ghost use Rattle.instance_pairs.specs.Limits.{max_instances};
 ghost use Rattle.instance_pairs.specs.Pairs.{max_runs_of, spot_at, pair_at};
 
-use crate::instances::{Instance, copied_instances};
+use crate::instances::Instance;
 use crate::spots::{Spot, spots_of};
 use objective::Memory;
 use plain_text::Items;
@@ -22,7 +24,8 @@ pub struct Pair<'a> {
 }
 
 /// The pairs of a tuning. Contracts see what they are made of. Their type keeps that there
-/// are 1 to 100,000 instances and 1 to 10,000 runs.
+/// are 1 to [`MAX_INSTANCES`](crate::MAX_INSTANCES) instances and 1 to
+/// [`MAX_RUNS`](objective::MAX_RUNS) runs.
 #[derive(Drop)]
 pub struct Pairs {
     instances: Items<Instance>,
@@ -67,9 +70,9 @@ impl Pairs {
         wanted: u32,
     ) -> Result<Pairs, Memory>
         requires some { 1 ≤ length instances.items }
-        requires few { length instances.items ≤ 100_000 }
+        requires few { length instances.items ≤ max_instances }
         requires one { 1 ≤ wanted }
-        requires most { wanted ≤ 10_000 }
+        requires most { wanted ≤ Limits.max_runs }
         ensures { IfOk result (λ p. p ≡ record { instances = instances.items; seed = seed; deterministic = deterministic; order = order; max_runs = max_runs_of deterministic (length instances.items) wanted }) }
     {
         let count = instances.len() as u32;
@@ -90,7 +93,7 @@ impl Pairs {
     pub fn max_runs(&self) -> u32
         ensures value { result ≡ self.now.max_runs }
         ensures one { 1 ≤ result }
-        ensures most { result ≤ 10_000 }
+        ensures most { result ≤ Limits.max_runs }
     {
         self.max_runs
     }
@@ -129,7 +132,7 @@ impl Pairs {
     {
         let spots = self.spots.as_slice();
         Ok(Pairs {
-            instances: copied_instances(&self.instances)?,
+            instances: self.instances.copy()?,
             seed: self.seed,
             deterministic: self.deterministic,
             order: self.order,

@@ -1,6 +1,7 @@
 //! The instances and seeds of places, by number.
 ghost use Rattle.std.specs.Prelude.{◌≡◌, ◌+◌, ◌*◌, ◌≤◌, OnOk, IfOk};
-ghost use Rattle.scenario_files.specs.declared.draft.PairOrder.TheVariants.{File as InFileOrder, Shuffled as InShuffledOrder};
+ghost use Rattle.scenario_files.specs.declared.draft.PairOrder.TheVariants;
+ghost use Rattle.instance_pairs.specs.Limits.{max_instances};
 ghost use Rattle.instance_pairs.specs.Pairs.{spots_to, AreSpots};
 
 use objective::Memory;
@@ -21,7 +22,7 @@ pub(crate) struct Spot {
 /// The spots of so many runs in file order.
 fn file_spots(alloc: Global, seed: u32, count: u32, max_runs: u32) -> Result<Vec<Spot>, Memory>
     requires { 1 ≤ count }
-    ensures { IfOk result (λ v. AreSpots InFileOrder seed count max_runs v.items) }
+    ensures { IfOk result (λ v. AreSpots TheVariants.File seed count max_runs v.items) }
 {
     let mut spots = Vec::new(alloc);
     for earlier in 0..max_runs {
@@ -41,9 +42,9 @@ fn push_round(
     count: u32,
     spots: &mut Vec<Spot>,
 ) -> Result<(), Memory>
-    requires few { count ≤ 100_000 }
-    requires before { spots.old.items ≡ spots_to InShuffledOrder draws.now count (round * count) }
-    ensures { OnOk result (spots.new.items ≡ spots_to InShuffledOrder draws.now count ((round + 1) * count)) }
+    requires few { count ≤ max_instances }
+    requires before { spots.old.items ≡ spots_to TheVariants.Shuffled draws.now count (round * count) }
+    ensures { OnOk result (spots.new.items ≡ spots_to TheVariants.Shuffled draws.now count ((round + 1) * count)) }
 {
     let stream = 2 * u64::from(round) + 1;
     let order = draws.order(alloc, stream, count)?;
@@ -65,8 +66,8 @@ fn shuffled_spots(
     max_runs: u32,
 ) -> Result<Vec<Spot>, Memory>
     requires some { 1 ≤ count }
-    requires few { count ≤ 100_000 }
-    ensures { IfOk result (λ v. AreSpots InShuffledOrder draws count max_runs v.items) }
+    requires few { count ≤ max_instances }
+    ensures { IfOk result (λ v. AreSpots TheVariants.Shuffled draws count max_runs v.items) }
 {
     let mut spots = Vec::new(alloc);
     for round in 0..max_runs.div_ceil(count) {
@@ -84,7 +85,7 @@ pub(crate) fn spots_of(
     max_runs: u32,
 ) -> Result<Vec<Spot>, Memory>
     requires some { 1 ≤ count }
-    requires few { count ≤ 100_000 }
+    requires few { count ≤ max_instances }
     ensures { IfOk result (λ v. AreSpots order seed count max_runs v.items) }
 {
     match order {

@@ -1,7 +1,7 @@
 use Rattle.std.proofs.Common.{◌<◌, [], length, sym, ◌∙◌, arith}
 use Rattle.std.proofs.lemmas.Bool.{eqb-false}
 use Rattle.plain_text.specs.Lines.{numbered_lines}
-use Rattle.instance_pairs.specs.Counts.{few_lines}
+use Rattle.instance_pairs.proofs.InstanceCounts.{few_lines}
 use Rattle.instance_pairs.proofs.reader.read_instances.Goals as goal
 
 pub returns-clause-count : goal.returns-clause-count

@@ -1,6 +1,6 @@
 use Rattle.std.proofs.Common.{refl, ◌∙◌, arith}
 use Rattle.scenario_files.specs.declared.draft.PairOrder.TheVariants.{File}
-use Rattle.instance_pairs.specs.Spots.{more_spots, file_spot, spots_are}
+use Rattle.instance_pairs.proofs.Rounds.{more_spots, file_spot, spots_are}
 use Rattle.instance_pairs.proofs.spots.file_spots.Goals as goal
 
 pub loop-earlier-preserved : goal.loop-earlier-preserved

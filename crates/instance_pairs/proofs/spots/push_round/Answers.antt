@@ -2,7 +2,7 @@ use Rattle.std.proofs.Common.{◌≡◌, ◌<◌, ◌+◌, ◌*◌, length, get_
 use Rattle.scenario_files.specs.declared.draft.PairOrder.TheVariants.{Shuffled}
 use Rattle.seeded_order.proofs.Orders.{length-order_of}
 use Rattle.instance_pairs.specs.Pairs.{spots_to}
-use Rattle.instance_pairs.specs.Spots.{more_spots, shuffled_spot}
+use Rattle.instance_pairs.proofs.Rounds.{more_spots, shuffled_spot}
 use Rattle.instance_pairs.proofs.spots.push_round.Goals as goal
 
 pub overflow_cast-position : goal.overflow_cast-position

@@ -1,7 +1,7 @@
 use Rattle.std.proofs.Common.{◌≡◌, ◌≤◌, ◌*◌, sym, subst, ◌∙◌, arith}
 use Rattle.std.proofs.lemmas.Grind.{div_ceil_times}
 use Rattle.scenario_files.specs.declared.draft.PairOrder.TheVariants.{Shuffled}
-use Rattle.instance_pairs.specs.Spots.{spots_are}
+use Rattle.instance_pairs.proofs.Rounds.{spots_are}
 use Rattle.instance_pairs.proofs.spots.shuffled_spots.Goals as goal
 
 pub returns : goal.returns

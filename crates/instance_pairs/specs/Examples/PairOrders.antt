@@ -1,35 +1,11 @@
--- A file of two instances, worked; faults of small files; and pairs in both orders.
-use Rattle.std.specs.Prelude.{◌≡◌, true, false, List, [], ◌∷◌, ◌++◌, Ok, Err, map, refl, codes}
-use Rattle.std.specs.Str.{is_utf8, chars}
-use Rattle.plain_text.specs.Lines.{numbered_lines, lines_of}
+-- The pairs of five runs in file order and shuffled, worked.
+use Rattle.std.specs.Prelude.{◌≡◌, true, false, List, [], ◌∷◌, map, refl, codes}
 use Rattle.rand_pcg.specs.Lcg.{state_after}
 use Rattle.scenario_files.specs.declared.draft.PairOrder.TheVariants.{Shuffled, File}
 use Rattle.seeded_order.specs.Draws.{generator_at, word_of, order_of}
-use Rattle.instance_pairs.specs.declared.faults.InstanceWhat.TheVariants.{NotText, NoInstances}
-use Rattle.instance_pairs.specs.declared.faults.InstanceFault.TheVariants.{At}
 use Rattle.instance_pairs.specs.declared.instances.Instance.{Instance}
-use Rattle.instance_pairs.specs.Reading.{instance_of, line_stated, with_lines, instances_read}
+use Rattle.instance_pairs.specs.Examples.InstanceFiles.{one, two}
 use Rattle.instance_pairs.specs.Pairs.{Plan, Drawn, pair_at}
-
--- an instance without specifics
-abbrev pub one : Instance
-one = record { name = codes "one"; specifics = codes "0" }
-
--- an instance with specifics
-abbrev pub two : Instance
-two = record { name = codes "two"; specifics = codes "a  b" }
-
-pub two_are_read : instances_read (codes "one \n\n\t two\ta  b \t\r\n \t") ≡ Ok (one ∷ two ∷ [])
-unfolding instances_read with_lines line_stated instance_of numbered_lines lines_of is_utf8 chars lib.Utf8.encode
-two_are_read = refl
-
-pub no_text : instances_read (codes "one\n" ++ 255 ∷ []) ≡ Err (At 2 NotText)
-unfolding instances_read with_lines line_stated instance_of numbered_lines lines_of is_utf8 chars lib.Utf8.encode
-no_text = refl
-
-pub blanks_alone : instances_read (codes " \t\n") ≡ Err (At 0 NoInstances)
-unfolding instances_read with_lines line_stated instance_of numbered_lines lines_of is_utf8 chars lib.Utf8.encode
-blanks_alone = refl
 
 -- an instance more
 abbrev pub three : Instance

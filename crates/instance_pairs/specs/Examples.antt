@@ -1,0 +1,2 @@
+pub mod InstanceFiles
+pub mod PairOrders
