@@ -1,10 +1,9 @@
 //! A seat whose children are processes of the system.
 ghost use Rattle.std.specs.Prelude.{◌≡◌, None, is_none, IfOk};
-ghost use Rattle.paramils.specs.LastRuns.{failed_run};
 
-use crate::last_runs::LastRuns;
+use crate::faults::fault_of;
 use objective::Memory;
-use outside::{Fail, Fault, Poll, Run, Spawner};
+use outside::{Fail, Fault, LastRuns, Poll, Run, Spawner};
 use plain_text::Text;
 use std::alloc::Global;
 use std::fs::File;
@@ -16,6 +15,11 @@ use std::{fs, io, thread};
 
 /// How many bytes of a child's output are kept: its last ones.
 const ROOM: usize = 65_536;
+
+/// The name of a file that the children of a seat write to.
+fn file_name(alloc: Global, number: u32, ending: &str) -> Result<String, Memory> {
+    Ok(format!(in alloc; "paramils-seat-{number}.{ending}")?)
+}
 
 /// A seat whose children are processes of the system. What they do isn't told.
 #[derive(Drop)]
@@ -40,8 +44,8 @@ impl<'a, R: Files<File = File> + Processes + Clock + AllocGlobal> ProcessSeat<'a
         let alloc = rt.alloc();
         Ok(ProcessSeat {
             rt,
-            output_name: format!(in alloc; "paramils-seat-{number}.out")?,
-            errors_name: format!(in alloc; "paramils-seat-{number}.err")?,
+            output_name: file_name(alloc, number, "out")?,
+            errors_name: file_name(alloc, number, "err")?,
             child: None,
             is_held: false,
             output: Vec::new(alloc),
@@ -58,6 +62,16 @@ impl<'a, R: Files<File = File> + Processes + Clock + AllocGlobal> ProcessSeat<'a
     }
 }
 
+/// Gives a command its words after the first, its folder, and no input.
+fn set_up(command: &mut Command, dir: &str, words: &[Text]) -> io::Result<()> {
+    for word in words {
+        command.arg(word.as_str())?;
+    }
+    command.current_dir(dir)?;
+    command.stdin(Stdio::null());
+    Ok(())
+}
+
 /// The command that these words are, in a folder, with no input. A program's name with a
 /// slash is meant from that folder; one without is looked up in `PATH`.
 fn command_of(alloc: Global, dir: &str, words: &[Text]) -> io::Result<Command> {
@@ -65,11 +79,7 @@ fn command_of(alloc: Global, dir: &str, words: &[Text]) -> io::Result<Command> {
         return Err(Error::from(ErrorKind::InvalidInput));
     };
     let mut command = Command::new(alloc, program.as_str())?;
-    for word in others {
-        command.arg(word.as_str())?;
-    }
-    command.current_dir(dir)?;
-    command.stdin(Stdio::null());
+    set_up(&mut command, dir, others)?;
     Ok(command)
 }
 
@@ -80,15 +90,28 @@ fn new_file<R: Files<File = File>>(rt: &R, name: &str) -> io::Result<File> {
     File::create_new(rt, name)
 }
 
-/// Starts a child without a shell, with new files for its output and its errors.
-fn launch<R: Files<File = File> + Processes>(
+/// Gives a command new files for its output and its errors.
+fn give_files<R: Files<File = File>>(
     rt: &R,
-    mut command: Command,
+    command: &mut Command,
+    output_name: &str,
+    errors_name: &str,
+) -> io::Result<()> {
+    command.stdout(new_file(rt, output_name)?);
+    command.stderr(new_file(rt, errors_name)?);
+    Ok(())
+}
+
+/// Starts a child without a shell, with new files for its output and its errors.
+fn launch<R: Files<File = File> + Processes + AllocGlobal>(
+    rt: &R,
+    dir: &str,
+    words: &[Text],
     output_name: &str,
     errors_name: &str,
 ) -> io::Result<Child<R::Started>> {
-    command.stdout(new_file(rt, output_name)?);
-    command.stderr(new_file(rt, errors_name)?);
+    let mut command = command_of(rt.alloc(), dir, words)?;
+    give_files(rt, &mut command, output_name, errors_name)?;
     command.spawn(rt)
 }
 
@@ -111,10 +134,10 @@ impl<'a, R: Files<File = File> + Processes + Clock + AllocGlobal> ProcessSeat<'a
         ensures faults { self.new.faults ≡ self.old.faults }
     {
         self.output.resize(ROOM, 0u8)?;
-        let command = command_of(self.rt.alloc(), dir, words)?;
         launch(
             self.rt,
-            command,
+            dir,
+            words,
             self.output_name.as_str(),
             self.errors_name.as_str(),
         )
@@ -159,7 +182,7 @@ impl<'a, R: Files<File = File> + Processes + Clock + AllocGlobal> Spawner for Pr
 
     ghost current = { λ s. s.runs.current };
 
-    ghost failed_run = { λ s. failed_run s.runs };
+    ghost failed_run = { λ s. s.runs.failed_run };
 
     ghost started = { λ _. None };
 
@@ -172,18 +195,18 @@ impl<'a, R: Files<File = File> + Processes + Clock + AllocGlobal> Spawner for Pr
     /// other error.
     fn start(&mut self, dir: &str, words: &[Text], run: &Run) -> Result<(), Fault> {
         self.is_held = false;
-        let Ok(copy) = run.copy(self.rt.alloc()) else {
+        let Ok(copy) = run.copy() else {
             return Err(Fault::Memory);
         };
-        match self.start_child(dir, words) {
+        self.runs.begin(copy, false);
+        match self.start_child(dir, words).map_err(fault_of) {
             Ok(child) => {
-                self.runs.begin(copy, false);
                 self.child = Some(child);
                 Ok(())
             }
-            Err(e) if e.kind() == ErrorKind::OutOfMemory => Err(Fault::Memory),
-            Err(_) => {
-                self.runs.begin(copy, true);
+            Err(Fault::Memory) => Err(Fault::Memory),
+            Err(Fault::Failed) => {
+                self.runs.fail();
                 self.faults = self.faults.saturating_add(1);
                 Err(Fault::Failed)
             }
@@ -193,15 +216,15 @@ impl<'a, R: Files<File = File> + Processes + Clock + AllocGlobal> Spawner for Pr
     /// Looks whether the child has ended, and then takes over the last 65,536 bytes of what
     /// it wrote. Fails where the look or the reading does; a child that still runs is killed.
     fn poll(&mut self) -> Result<Poll, Fail> {
-        let look = self.look();
-        self.is_held = matches!(look, Ok(Poll::Ended));
+        let look = self.look().ok();
+        self.is_held = matches!(look, Some(Poll::Ended));
         match look {
-            Ok(Poll::Pending) => Ok(Poll::Pending),
-            Ok(Poll::Ended) => {
+            Some(Poll::Pending) => Ok(Poll::Pending),
+            Some(Poll::Ended) => {
                 self.child = None;
                 Ok(Poll::Ended)
             }
-            Err(_) => {
+            None => {
                 self.end_child();
                 self.runs.fail();
                 self.faults = self.faults.saturating_add(1);

@@ -1,9 +1,10 @@
 //! Files of the system.
 ghost use Rattle.std.specs.Prelude.{◌≡◌, None};
 
+use crate::faults::fault_of;
 use outside::Fault;
 use std::io;
-use std::io::{ErrorKind, Read};
+use std::io::Read;
 
 /// How many bytes of a file are read at most.
 const MOST: u64 = 1 << 32;
@@ -46,10 +47,10 @@ impl<'a, R: std::rt::Files + AllocGlobal> outside::Files for RealFiles<'a, R> {
     /// Reads a whole file, and of a longer one its first 2^32 bytes. Memory where the
     /// system or the allocator has none left; Failed at every other error.
     fn read(&mut self, name: &str) -> Result<Vec<u8>, Fault> {
-        match first_bytes(self.rt, name) {
+        match first_bytes(self.rt, name).map_err(fault_of) {
             Ok(bytes) => Ok(bytes),
-            Err(e) if e.kind() == ErrorKind::OutOfMemory => Err(Fault::Memory),
-            Err(_) => {
+            Err(Fault::Memory) => Err(Fault::Memory),
+            Err(Fault::Failed) => {
                 self.faults = self.faults.saturating_add(1);
                 Err(Fault::Failed)
             }
