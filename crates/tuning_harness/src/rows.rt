@@ -1,14 +1,14 @@
-//! What children answer: one table for all rows, since each further one would compile the
+//! What children answer: one table for all tunings, since each further one would compile the
 //! whole call again.
-ghost use Rattle.std.specs.Prelude.{◌≡◌, ◌≤◌, slice_index_or};
-ghost use Rattle.worked_rows.specs.Rows.{has as has_value, letters_of as letters_for, stands_for, column_of as column_for};
+ghost use Rattle.std.specs.Prelude.{◌≡◌, slice_index_or};
+ghost use Rattle.tuning_harness.specs.Rows;
 
 use objective::{Micros, Outcome};
 use outside::{Key, Setting, Table};
 
 /// Whether the first setting has this value.
-pub(crate) fn has(settings: &[Setting], value: &str) -> bool
-    ensures { result ≡ has_value value.now settings.now }
+fn has(settings: &[Setting], value: &str) -> bool
+    ensures { result ≡ Rows.has value.now settings.now }
 {
     match settings {
         [] => false,
@@ -18,33 +18,42 @@ pub(crate) fn has(settings: &[Setting], value: &str) -> bool
 
 /// The letters of an instance with these specifics.
 fn letters_of(specifics: &str) -> &str
-    ensures { result.now ≡ letters_for specifics.now }
+    ensures { result.now ≡ Rows.letters_of specifics.now }
 {
     if specifics == "0" { "3429" } else { specifics }
 }
 
+/// Whether the first setting has the second value of a space, which is b or random.
+fn is_second(settings: &[Setting]) -> bool
+    ensures { result ≡ Rows.is_second settings.now }
+{
+    has(settings, "b") || has(settings, "random")
+}
+
 /// The column of a run: the first two letters are of the first seed and of the others, and
-/// so are the next two, where the first setting has the value b.
+/// so are the next two, where the first setting has the second value.
 fn column_of(key: &Key) -> usize
-    ensures { result ≡ column_for key.now }
+    ensures { result ≡ Rows.column_of key.now }
 {
     let others = if key.seed == 1 { 0 } else { 1 };
-    if has(key.settings.as_slice(), "b") {
+    if is_second(key.settings.as_slice()) {
         2 + others
     } else {
         others
     }
 }
 
-/// The outcome that a letter stands for: a digit for that many seconds, `u` for no solution,
-/// `c` for a crash and `x` for an abort after a second.
+/// The outcome that a letter stands for: a digit for that many seconds, `q` for 1.25 and `h`
+/// for 1.5, `u` for no solution, `c` for a crash and `x` for an abort after a second.
 fn outcome_of(letter: u8) -> Outcome
-    ensures { result ≡ stands_for letter }
+    ensures { result ≡ Rows.outcome_of letter }
 {
     match letter {
         b'u' => Outcome::Unsolved,
         b'c' => Outcome::Crashed(Micros(1_000_000)),
         b'x' => Outcome::Abort(Micros(1_000_000)),
+        b'q' => Outcome::Solved(Micros(1_250_000)),
+        b'h' => Outcome::Solved(Micros(1_500_000)),
         _ => Outcome::Solved(Micros(u64::from(letter.saturating_sub(b'0')) * 1_000_000)),
     }
 }
@@ -61,12 +70,13 @@ fn letter_in(letters: &str, column: usize) -> u8
     }
 }
 
-/// Children whose answers stand in their instance's specifics, as four letters: those of a
-/// for the seed 1 and for other seeds, and those of b. Without specifics they are `3429`.
-pub(crate) struct Rows;
+/// Children whose answers stand in their instance's specifics, as four letters: those of the
+/// first value for the seed 1 and for other seeds, and those of the second value. Without
+/// specifics they are `3429`.
+pub struct Rows;
 
 impl Table for Rows {
-    ghost use Rattle.worked_rows.specs.Rows.{outcome_at};
+    ghost use Rattle.tuning_harness.specs.Rows.{outcome_at};
 
     ghost outcome = { outcome_at };
 

@@ -1,0 +1,38 @@
+//! What the crates of tests share: a small space from lines of a parameter file, and lists
+//! of texts and of numbers.
+#![tactic(auto)]
+
+ghost use Rattle.std.specs.Prelude.{◌≡◌, IfOk, Ok};
+ghost use Rattle.param_files.specs.Reading.{params_read};
+
+use objective::Memory;
+use param_files::{ParamFault, read_params};
+use param_space::Space;
+use plain_text::{Items, Text};
+use std::alloc::Global;
+
+/// The space of these lines of a parameter file.
+///
+/// # Errors
+/// The first rule that they break, or [`ParamFault::Memory`].
+pub fn space_of(alloc: Global, lines: &str) -> Result<Space, ParamFault>
+    ensures { IfOk result (λ s. params_read lines.now ≡ Ok s) }
+{
+    read_params(alloc, lines.as_bytes())
+}
+
+/// These words as texts.
+pub fn texts(alloc: Global, words: &[&str]) -> Result<Vec<Text>, Memory> {
+    let mut texts = Vec::new(alloc);
+    for word in words {
+        texts.push(Text::of(alloc, word)?)?;
+    }
+    Ok(texts)
+}
+
+/// A list of these numbers.
+pub fn numbers(alloc: Global, numbers: &[u32]) -> Result<Items<u32>, Memory>
+    ensures { IfOk result (λ list. list ≡ numbers.now) }
+{
+    Ok(Items::new(Vec::from_slice(alloc, numbers)?))
+}

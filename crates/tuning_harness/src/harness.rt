@@ -1,0 +1,219 @@
+//! A tuning in memory, and what it came to.
+ghost use Rattle.std.specs.Prelude.{◌≡◌, All, IsTrue, IfOk, true};
+
+use crate::rows::Rows;
+use objective::Memory;
+use outside::{MemoryFiles, MemorySink, Script, TableSeat};
+use plain_text::Text;
+use std::alloc::Global;
+use std::sync::Wait;
+use test_support::{numbers, texts};
+use tuner::{Seat, Status, tune};
+
+/// A file: its name and its bytes.
+pub type File<'a> = (&'a str, &'a [u8]);
+
+/// The default settings on two pairs, by BasicILS.
+pub const SCENARIO: &str =
+    "algo = w\nparamfile = p\ninstance_file = i\ncutoff_time = 10\ncap_floor = 0.000001\napproach = basic\nN = 2\nr = 0\ns = 1\np_restart = 0\npair_order = file\n";
+
+/// The usual files.
+pub fn usual() -> [File<'static>; 3] {
+    [
+        ("s", SCENARIO.as_bytes()),
+        ("p", b"x {a, b} [a]\n"),
+        ("i", b"one\n"),
+    ]
+}
+
+/// The words of a tuning that ends with the opening evaluation.
+pub const WORDS: [&str; 4] = ["-scenariofile", "s", "-maxComparisons", "0"];
+
+/// What goes wrong, by numbers from 1; 0 where nothing does.
+#[derive(Clone, Copy)]
+pub struct Faults {
+    /// How many looks at the first two children come before they have ended.
+    pub pending: [u32; 2],
+    /// The read that fails.
+    pub read: u32,
+    /// The write that fails.
+    pub write: u32,
+    /// The write that takes nothing.
+    pub empty: u32,
+    /// The start that fails.
+    pub start: u32,
+    /// The look that fails.
+    pub look: u32,
+}
+
+/// Nothing goes wrong, and the first two children are looked at more than once.
+pub const NONE: Faults = Faults {
+    pending: [3, 1],
+    read: 0,
+    write: 0,
+    empty: 0,
+    start: 0,
+    look: 0,
+};
+
+/// What a tuning came to.
+#[derive(Drop)]
+pub struct Tuning {
+    /// How it ended.
+    pub status: Status,
+    /// What it printed.
+    pub printed: Vec<u8>,
+    /// The words of each start of the first seat, parted by spaces, in a line of its own.
+    pub starts: String,
+    /// How many children the first seat started.
+    pub started: usize,
+    /// How many starts and looks of the first seat failed.
+    pub failed: u64,
+    /// How many children the second seat started.
+    pub others: usize,
+}
+
+/// These files; a later one stands in the place of an earlier one of its name.
+fn folder(alloc: Global, files: &[File<'_>], changes: &[File<'_>]) -> Result<MemoryFiles, Memory> {
+    let mut folder = MemoryFiles::new(alloc);
+    for (name, bytes) in files {
+        folder.put(name, bytes)?;
+    }
+    for (name, bytes) in changes {
+        folder.put(name, bytes)?;
+    }
+    Ok(folder)
+}
+
+/// An output with these faults.
+fn sink(alloc: Global, faults: &Faults) -> Result<MemorySink, Memory> {
+    let mut sink = MemorySink::new(alloc);
+    sink.fail_at(faults.write)?;
+    sink.nothing_at(faults.empty)?;
+    Ok(sink)
+}
+
+/// The script of these faults.
+fn script(alloc: Global, faults: &Faults) -> Result<Script, Memory> {
+    Ok(Script {
+        pending: numbers(alloc, &faults.pending)?,
+        bad_starts: numbers(alloc, &[faults.start])?,
+        bad_polls: numbers(alloc, &[faults.look])?,
+        stuck: numbers(alloc, &[])?,
+    })
+}
+
+/// A seat with these faults.
+fn seat(alloc: Global, faults: &Faults) -> Result<Seat<TableSeat<Rows>>, Memory>
+    ensures { IfOk result (λ seat. IsTrue seat.spawner.idle) }
+{
+    Ok(Seat::new(TableSeat::new(alloc, script(alloc, faults)?)?))
+}
+
+/// Appends the words, parted by spaces, and ends the line.
+fn push_words(words: &[Text], line: &mut String) -> Result<(), Memory> {
+    let mut is_first = true;
+    for word in words {
+        if !is_first {
+            line.push(' ')?;
+        }
+        line.push_str(word.as_str())?;
+        is_first = false;
+    }
+    line.push('\n')?;
+    Ok(())
+}
+
+/// The words of each start of a seat.
+fn all_starts(alloc: Global, seat: &TableSeat<Rows>) -> Result<String, Memory> {
+    let mut text = String::new(alloc);
+    for start in seat.starts() {
+        push_words(start.as_slice(), &mut text)?;
+    }
+    Ok(text)
+}
+
+/// What a tuning that ended so came to.
+fn outcome(
+    alloc: Global,
+    status: Status,
+    printed: &[u8],
+    first: &TableSeat<Rows>,
+    second: &TableSeat<Rows>,
+) -> Result<Tuning, Memory> {
+    let printed = Vec::from_slice(alloc, printed)?;
+    Ok(Tuning {
+        status,
+        printed,
+        starts: all_starts(alloc, first)?,
+        started: first.starts().len(),
+        failed: first.faults(),
+        others: second.starts().len(),
+    })
+}
+
+/// The one call of the tuner.
+fn tuned<R: Wait>(
+    rt: &R,
+    alloc: Global,
+    words: &[Text],
+    files: &mut MemoryFiles,
+    out: &mut MemorySink,
+    seats: &mut [Seat<TableSeat<Rows>>],
+) -> Status
+    requires { All (λ seat. IsTrue seat.spawner.idle) seats.old }
+{
+    let mut log = MemorySink::new(alloc);
+    tune(rt, alloc, words, files, out, &mut log, seats)
+}
+
+/// A tuning by these words over these files.
+fn ran_over<R: Wait>(
+    rt: &R,
+    alloc: Global,
+    words: &[Text],
+    files: &mut MemoryFiles,
+    faults: &Faults,
+) -> Result<Tuning, Memory> {
+    let mut out = sink(alloc, faults)?;
+    let mut seats = [seat(alloc, faults)?, seat(alloc, faults)?];
+    let status = tuned(rt, alloc, words, files, &mut out, &mut seats);
+    outcome(
+        alloc,
+        status,
+        out.bytes(),
+        seats[0].spawner(),
+        seats[1].spawner(),
+    )
+}
+
+/// Runs a tuning by these words over two seats and these files, of which the changes stand in
+/// the place of those of their name.
+pub fn ran<R: Wait>(
+    rt: &R,
+    alloc: Global,
+    words: &[&str],
+    files: &[File<'_>],
+    changes: &[File<'_>],
+    faults: &Faults,
+) -> Result<Tuning, Memory> {
+    let words = texts(alloc, words)?;
+    let mut folder = folder(alloc, files, changes)?;
+    folder.fail_at(faults.read)?;
+    ran_over(rt, alloc, words.as_slice(), &mut folder, faults)
+}
+
+/// Runs a tuning by these words over the usual files and no seat: how it ends, and what it
+/// prints.
+pub fn ran_unseated<R: Wait>(
+    rt: &R,
+    alloc: Global,
+    words: &[&str],
+) -> Result<(Status, Vec<u8>), Memory> {
+    let words = texts(alloc, words)?;
+    let mut files = folder(alloc, &usual(), &[])?;
+    let mut out = MemorySink::new(alloc);
+    let mut none: [Seat<TableSeat<Rows>>; 0] = [];
+    let status = tuned(rt, alloc, words.as_slice(), &mut files, &mut out, &mut none);
+    Ok((status, Vec::from_slice(alloc, out.bytes())?))
+}

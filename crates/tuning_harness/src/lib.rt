@@ -1,0 +1,8 @@
+//! Whole tunings over files, output and seats in memory, for the crates of tests.
+#![tactic(auto)]
+
+mod harness;
+mod rows;
+
+pub use harness::{Faults, File, NONE, SCENARIO, Tuning, WORDS, ran, ran_unseated, usual};
+pub use rows::Rows;

@@ -1,0 +1,10 @@
+//! Whole tunings that end as they should, with the values that they must print. There is no
+//! code here, only tests.
+#![tactic(auto)]
+
+#[cfg(test)]
+mod scenarios;
+#[cfg(test)]
+mod searches;
+#[cfg(test)]
+mod spaces;
