@@ -1,59 +1,103 @@
 //! Faults of children, of the output and of memory, and the end that a child asks for.
-use std::test::Fail;
+use crate::checks::check;
+use objective::Memory;
+use std::alloc::Global;
+use std::sync::Wait;
 use tuner::Status;
-use tuning_harness::{Faults, NONE, WORDS, ran, usual};
+use tuning_harness::{Faults, NONE, WORDS, ran};
+
+/// Whether a tuning with these faults ends so with this code after so many failed starts and
+/// looks, and prints this.
+fn is_ended<R: Wait>(
+    rt: &R,
+    alloc: Global,
+    faults: &Faults,
+    status: Status,
+    code: u8,
+    failed: u64,
+    printed: &str,
+) -> Result<bool, Memory> {
+    let ran = ran(rt, alloc, WORDS, &[], faults)?;
+    let right = ran.status == status && ran.status.code() == code && ran.failed == failed;
+    Ok(right && ran.printed.as_slice() == printed.as_bytes())
+}
+
+/// Whether a tuning in which this start or this look fails names the child so.
+fn is_named<R: Wait>(
+    rt: &R,
+    alloc: Global,
+    start: u32,
+    look: u32,
+    printed: &str,
+) -> Result<bool, Memory> {
+    let faults = Faults {
+        pending: [0, 0],
+        start,
+        look,
+        ..NONE
+    };
+    let status = Status::ChildFault { seat: 0 };
+    is_ended(rt, alloc, &faults, status, 7, 1, printed)
+}
 
 #[test]
-fn failed_children_are_named(rt: HostRuntime) -> Result<(), Fail> {
+fn failed_children_are_named(rt: HostRuntime) {
     // The first start fails; the second look does, where no child is pending.
-    for (start, look, wanted) in [(1, 0, "childfault 1 x=a\n"), (0, 2, "childfault 2 x=a\n")] {
-        let faults = Faults {
-            pending: [0, 0],
-            start,
-            look,
-            ..NONE
-        };
-        let ran = ran(&rt, rt.alloc(), &WORDS, &usual(), &[], &faults)?;
-        assert_eq!(rt; ran.status, Status::ChildFault { seat: 0 }, "{wanted}");
-        assert_eq!(rt; (ran.status.code(), ran.failed), (7, 1), "{wanted}");
-        assert_eq!(rt; ran.printed.as_slice(), wanted.as_bytes());
+    for (start, look, printed) in &[(1, 0, "childfault 1 x=a\n"), (0, 2, "childfault 2 x=a\n")] {
+        let right = is_named(&rt, rt.alloc(), *start, *look, printed);
+        check(&rt, matches!(right, Ok(true)), printed);
     }
-    Ok(())
+}
+
+/// Whether a tuning in which this write fails, or this one takes nothing, has printed this.
+fn is_cut_off<R: Wait>(
+    rt: &R,
+    alloc: Global,
+    write: u32,
+    empty: u32,
+    printed: &str,
+) -> Result<bool, Memory> {
+    let faults = Faults {
+        write,
+        empty,
+        ..NONE
+    };
+    is_ended(rt, alloc, &faults, Status::WriteFault, 5, 0, printed)
 }
 
 #[test]
-fn writes_that_fail_end_the_call(rt: HostRuntime) -> Result<(), Fail> {
+fn writes_that_fail_end_the_call(rt: HostRuntime) {
     // The first write fails; the second takes nothing, after the entry's line.
-    for (write, empty, wanted) in [(1, 0, ""), (0, 2, "0 2 7.000000 x=a\n")] {
-        let faults = Faults {
-            write,
-            empty,
-            ..NONE
-        };
-        let ran = ran(&rt, rt.alloc(), &WORDS, &usual(), &[], &faults)?;
-        assert_eq!(rt; ran.status, Status::WriteFault, "write {write}");
-        assert_eq!(rt; ran.status.code(), 5, "write {write}");
-        assert_eq!(rt; ran.printed.as_slice(), wanted.as_bytes(), "write {write}");
+    for (write, empty, printed) in &[(1, 0, ""), (0, 2, "0 2 7.000000 x=a\n")] {
+        let right = is_cut_off(&rt, rt.alloc(), *write, *empty, printed);
+        check(&rt, matches!(right, Ok(true)), printed);
     }
-    Ok(())
+}
+
+/// Whether a tuning by these words over these instances ends by an abort of its last child.
+fn is_aborted<R: Wait>(
+    rt: &R,
+    alloc: Global,
+    words: &str,
+    instances: &str,
+    started: usize,
+) -> Result<bool, Memory> {
+    let files = [("i", instances.as_bytes())];
+    let ran = ran(rt, alloc, words, &files, &NONE)?;
+    let right = ran.status == Status::Unbuilt && ran.started == started;
+    Ok(right && ran.printed.as_slice() == b"unbuilt\n".as_slice())
 }
 
 #[test]
-fn an_abort_ends_the_call(rt: HostRuntime) -> Result<(), Fail> {
-    let comparison = ["-scenariofile", "s", "-maxComparisons", "1"];
+fn an_abort_ends_the_call(rt: HostRuntime) {
     // In the opening evaluation, and in the first comparison.
-    for (words, instances, started) in [(WORDS, b"one xxxx\n", 1), (comparison, b"one 34x1\n", 5)] {
-        let files = [("i", instances.as_slice())];
-        let ran = ran(&rt, rt.alloc(), &words, &usual(), &files, &NONE)?;
-        assert_eq!(rt; ran.status, Status::Unbuilt, "{words:?}");
-        assert_eq!(rt;
-            ran.printed.as_slice(),
-            b"unbuilt\n".as_slice(),
-            "{words:?}"
-        );
-        assert_eq!(rt; ran.started, started, "{words:?}");
+    for (words, instances, started) in &[
+        (WORDS, "one xxxx\n", 1),
+        ("-scenariofile|s|-maxComparisons|1", "one 34x1\n", 5),
+    ] {
+        let right = is_aborted(&rt, rt.alloc(), words, instances, *started);
+        check(&rt, matches!(right, Ok(true)), instances);
     }
-    Ok(())
 }
 
 /// What a tuning may leave on its output where an allocation was refused.
@@ -66,14 +110,16 @@ fn may_stand(status: Status, bytes: &[u8]) -> bool {
     }
 }
 
+/// Whether a tuning left what it may; that it isn't known is right, too.
+fn stands<R: Wait>(rt: &R, alloc: Global) -> bool {
+    match ran(rt, alloc, WORDS, &[], &NONE) {
+        Ok(ran) => may_stand(ran.status, ran.printed.as_slice()),
+        Err(Memory) => true,
+    }
+}
+
 // Run it by `rt try --test --fail-alloc N`, which refuses the allocation with this number.
 #[test]
 fn refused_memory_gives_no_other_answer(rt: HostRuntime) {
-    if let Ok(ran) = ran(&rt, rt.alloc(), &WORDS, &usual(), &[], &NONE) {
-        assert!(rt;
-            may_stand(ran.status, ran.printed.as_slice()),
-            "{:?}",
-            ran.status
-        );
-    }
+    check(&rt, stands(&rt, rt.alloc()), "refused memory");
 }

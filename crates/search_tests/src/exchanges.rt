@@ -1,39 +1,51 @@
 //! Neighbours of defaults, by value and by number.
+use crate::checks::check;
 use neighbourhood::neighbours;
 use objective::Memory;
-use param_files::ParamFault;
-use param_space::Space;
+use param_space::{Config, Space};
 use std::alloc::Global;
 use test_support::space_of;
 
-/// The value numbers of the neighbours of the defaults, one configuration after another.
-fn around_defaults(alloc: Global, space: &Space) -> Result<Vec<u16>, Memory> {
-    let found = neighbours(alloc, space, &space.default_config()?)?;
+/// The value numbers of these configurations, one after another.
+fn numbers_of(alloc: Global, configs: &[Config]) -> Result<Vec<u16>, Memory> {
     let mut numbers = Vec::new(alloc);
-    for config in &found {
+    for config in configs {
         numbers.extend_from_slice(config.values())?;
     }
     Ok(numbers)
 }
 
+/// The neighbours of the defaults.
+fn around_defaults(alloc: Global, space: &Space) -> Result<Vec<Config>, Memory> {
+    let start = space.default_config()?;
+    neighbours(alloc, space, &start)
+}
+
+/// Whether these are the neighbours of the defaults.
+fn are_neighbours(alloc: Global, space: &Space, wanted: &[u16]) -> Result<bool, Memory> {
+    match &around_defaults(alloc, space) {
+        Ok(found) => Ok(numbers_of(alloc, found)?.as_slice() == wanted),
+        Err(_) => Ok(false),
+    }
+}
+
 /// Whether these are the neighbours of the defaults of the space of these lines.
-fn are_around(alloc: Global, lines: &str, wanted: &[u16]) -> Result<bool, ParamFault> {
-    let space = space_of(alloc, lines)?;
-    Ok(around_defaults(alloc, &space)?.as_slice() == wanted)
+fn are_around(alloc: Global, lines: &str, wanted: &[u16]) -> Result<bool, Memory> {
+    match &space_of(alloc, lines) {
+        Ok(space) => are_neighbours(alloc, space, wanted),
+        Err(_) => Ok(false),
+    }
 }
 
 #[test]
 fn exchanges_each_value(rt: HostRuntime) {
-    for (lines, wanted) in [
+    for (lines, wanted) in &[
         ("x {a, b} [a]\ny {1, 2, 3} [2]", [1, 1, 0, 0, 0, 2]),
         ("x {a, b} [b]\ny {1, 2, 3} [3]", [0, 2, 1, 0, 1, 1]),
         ("x {a, b} [b]\ny {1, 2, 3} [1]", [0, 0, 1, 1, 1, 2]),
     ] {
-        assert_eq!(rt;
-            are_around(rt.alloc(), lines, &wanted),
-            Ok(true),
-            "in {lines}"
-        );
+        let right = are_around(rt.alloc(), lines, wanted);
+        check(&rt, matches!(right, Ok(true)), lines);
     }
 }
 
@@ -55,18 +67,26 @@ fn wide_chain(alloc: Global) -> Result<String, Memory> {
     Ok(text)
 }
 
-/// The numbers of conditions and of the neighbours of the defaults.
-fn counts_of(alloc: Global, lines: &str) -> Result<(usize, usize), ParamFault> {
-    let space = space_of(alloc, lines)?;
-    let found = neighbours(alloc, &space, &space.default_config()?)?;
-    Ok((space.conditions().len(), found.len()))
+/// Whether there are so many conditions, and neighbours of the defaults.
+fn has_counts(alloc: Global, space: &Space, conditions: usize, neighbours: usize) -> bool {
+    let right = space.conditions().len() == conditions;
+    match &around_defaults(alloc, space) {
+        Ok(found) => right && found.len() == neighbours,
+        Err(_) => false,
+    }
 }
 
-fn chain_counts(alloc: Global) -> Result<(usize, usize), ParamFault> {
-    counts_of(alloc, wide_chain(alloc)?.as_str())
+/// Whether the wide chain has 1,014 conditions, and the 256 neighbours of its defaults.
+fn chain_is_wide(alloc: Global) -> Result<bool, Memory> {
+    let lines = wide_chain(alloc)?;
+    match &space_of(alloc, lines.as_str()) {
+        Ok(space) => Ok(has_counts(alloc, space, 1014, 256)),
+        Err(_) => Ok(false),
+    }
 }
 
 #[test]
 fn a_wide_chain_has_all_its_neighbours(rt: HostRuntime) {
-    assert_eq!(rt; chain_counts(rt.alloc()), Ok((1014, 256)));
+    let right = chain_is_wide(rt.alloc());
+    check(&rt, matches!(right, Ok(true)), "256 parameters");
 }

@@ -1,10 +1,10 @@
 //! A search by BasicILS is opened and copied, and answered by hand.
 use crate::answers::{Answer, fits, is_asked, rules_of_two};
+use crate::checks::check;
 use basic_ils::Basic;
 use ils_face::{Ask, Reply, Rules, Search};
 use ils_frame::Ils;
 use objective::{Memory, Sum};
-use param_files::ParamFault;
 use std::alloc::Global;
 
 /// Gives the answer; whether it is to what was asked.
@@ -65,16 +65,21 @@ fn finds<S: Search>(search: &S) -> Result<bool, Memory> {
 }
 
 fn ils_finds(alloc: Global, rules: &Rules) -> Result<bool, Memory> {
-    let search = Ils::<Basic>::open(alloc, rules)?;
-    finds(&search)
+    match &Ils::<Basic>::open(alloc, rules) {
+        Ok(search) => finds(search),
+        Err(_) => Ok(false),
+    }
 }
 
-fn finds_of_two(alloc: Global) -> Result<bool, ParamFault> {
-    let rules = rules_of_two(alloc)?;
-    Ok(ils_finds(alloc, &rules)?)
+fn finds_of_two(alloc: Global) -> Result<bool, Memory> {
+    match &rules_of_two(alloc) {
+        Ok(rules) => ils_finds(alloc, rules),
+        Err(_) => Ok(false),
+    }
 }
 
 #[test]
 fn a_search_is_opened_copied_and_answered(rt: HostRuntime) {
-    assert_eq!(rt; finds_of_two(rt.alloc()), Ok(true));
+    let right = finds_of_two(rt.alloc());
+    check(&rt, matches!(right, Ok(true)), "a and b");
 }

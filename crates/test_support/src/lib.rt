@@ -1,5 +1,5 @@
-//! What the crates of tests share: a small space from lines of a parameter file, and lists
-//! of texts and of numbers.
+//! What the crates of tests share: a small space from lines of a parameter file, words from
+//! one text, and lists of numbers.
 #![tactic(auto)]
 
 ghost use Rattle.std.specs.Prelude.{◌≡◌, IfOk, Ok};
@@ -21,13 +21,16 @@ pub fn space_of(alloc: Global, lines: &str) -> Result<Space, ParamFault>
     read_params(alloc, lines.as_bytes())
 }
 
-/// These words as texts.
-pub fn texts(alloc: Global, words: &[&str]) -> Result<Vec<Text>, Memory> {
-    let mut texts = Vec::new(alloc);
-    for word in words {
-        texts.push(Text::of(alloc, word)?)?;
+/// The words between the bars of a text; none where it is empty.
+pub fn words_between(alloc: Global, text: &str) -> Result<Vec<Text>, Memory> {
+    let mut words = Vec::new(alloc);
+    if text.is_empty() {
+        return Ok(words);
     }
-    Ok(texts)
+    for word in text.split('|') {
+        words.push(Text::of(alloc, word)?)?;
+    }
+    Ok(words)
 }
 
 /// A list of these numbers.

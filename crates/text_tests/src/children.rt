@@ -1,7 +1,8 @@
 //! The seat, the files and the output in memory, and the faults that they are told to have.
-ghost use Rattle.std.specs.Prelude.{IsTrue, codes};
+ghost use Rattle.std.specs.Prelude.{◌≡◌, IsTrue, codes};
 ghost use Rattle.outside.specs.Runs.{AreWordsOf};
 
+use crate::checks::check;
 use objective::{Answer, Memory, Micros, Outcome};
 use outside::{
     Fault, Files, Key, MemoryFiles, MemorySink, Poll, Program, Run, Script, Setting, Sink, Spawner,
@@ -57,64 +58,96 @@ fn example_script(alloc: Global) -> Result<Script, Memory> {
     })
 }
 
-/// The first child ends at the second look; the second start and the third look fail.
-fn follow(rt: &impl Abort, seat: &mut TableSeat<Steady>, words: &[Text], run: &Run)
+/// The first child is solved at the second look.
+fn first_child(rt: &impl Abort, seat: &mut TableSeat<Steady>, words: &[Text], run: &Run)
     requires idle { IsTrue seat.old.idle }
     requires words { AreWordsOf (codes ".") words.now run.now }
+    ensures { IsTrue seat.new.idle }
 {
     assert!(rt; seat.start(".", words, run).is_ok());
     assert!(rt; matches!(seat.poll(), Ok(Poll::Pending)));
     assert!(rt; matches!(seat.poll(), Ok(Poll::Ended)));
-    assert_eq!(rt;
-        answer_of(seat.output(), run.cutoff),
-        Answer::Solved(Micros(3_000_000))
-    );
+    let answer = answer_of(seat.output(), run.cutoff);
+    assert_eq!(rt; answer, Answer::Solved(Micros(3_000_000)));
+}
+
+/// The second start fails, and the third look.
+fn failing_children(rt: &impl Abort, seat: &mut TableSeat<Steady>, words: &[Text], run: &Run)
+    requires idle { IsTrue seat.old.idle }
+    requires words { AreWordsOf (codes ".") words.now run.now }
+{
     assert!(rt; seat.start(".", words, run).is_err());
     assert!(rt; seat.start(".", words, run).is_ok());
     assert!(rt; seat.poll().is_err());
     assert_eq!(rt; (seat.starts().len(), seat.faults()), (2, 2));
 }
 
-/// Runs a seat by its script, with the words of this program's run.
-fn run_seat(rt: &impl Abort, alloc: Global, program: &Program, run: &Run) -> Result<(), Memory> {
+/// Runs a seat by its script, with these words of the run.
+fn run_seat(rt: &impl Abort, alloc: Global, words: &[Text], run: &Run) -> Result<(), Memory>
+    requires { AreWordsOf (codes ".") words.now run.now }
+{
+    let mut seat: TableSeat<Steady> = TableSeat::new(alloc, example_script(alloc)?)?;
+    first_child(rt, &mut seat, words, run);
+    failing_children(rt, &mut seat, words, run);
+    Ok(())
+}
+
+/// Runs a seat with the words of this program's run.
+fn run_program(rt: &impl Abort, alloc: Global, program: &Program, run: &Run) -> Result<(), Memory>
+    requires { program.now.dir ≡ codes "." }
+{
     let words = words_of(alloc, program, run)?;
     assert_eq!(rt; words.len(), 9);
-    let mut seat: TableSeat<Steady> = TableSeat::new(alloc, example_script(alloc)?)?;
-    follow(rt, &mut seat, words.as_slice(), run);
-    Ok(())
+    run_seat(rt, alloc, words.as_slice(), run)
+}
+
+/// Runs a seat with the words of this run.
+fn run_child(rt: &impl Abort, alloc: Global, run: &Run) -> Result<(), Memory> {
+    let program = read_program(alloc, "sh run", ".", 7)?;
+    run_program(rt, alloc, &program, run)
 }
 
 #[test]
 fn seat_follows_its_script(rt: HostRuntime) -> Result<(), Fail> {
-    let alloc = rt.alloc();
-    let program = read_program(alloc, "sh run", ".", 7)?;
-    let run = example_run(alloc)?;
-    Ok(run_seat(&rt, alloc, &program, &run)?)
+    let run = example_run(rt.alloc())?;
+    Ok(run_child(&rt, rt.alloc(), &run)?)
 }
 
-#[test]
-fn files_and_sink_keep_what_they_are_given(rt: HostRuntime) -> Result<(), Fail> {
-    let alloc = rt.alloc();
+/// Whether the second read fails, and one of a file that there isn't.
+fn is_read(files: &mut MemoryFiles) -> bool {
+    let first = files.read("a").ok().as_deref() == Some(b"new".as_slice());
+    let later = files.read("a").is_err() && files.read("b").is_err();
+    first && later && files.faults() == 2
+}
+
+fn are_kept(alloc: Global) -> Result<bool, Memory> {
     let mut files = MemoryFiles::new(alloc);
     files.put("a", b"old")?;
     files.put("a", b"new")?;
     files.fail_at(2)?;
-    assert_eq!(rt; files.read("a").ok().as_deref(), Some(b"new".as_slice()));
-    assert!(rt; files.read("a").is_err());
-    assert!(rt; files.read("b").is_err());
-    assert_eq!(rt; files.faults(), 2);
+    Ok(is_read(&mut files))
+}
+
+#[test]
+fn files_keep_what_they_are_given(rt: HostRuntime) {
+    check(&rt, matches!(are_kept(rt.alloc()), Ok(true)), "files");
+}
+
+/// Whether the second write fails, and the third takes nothing.
+fn is_written(sink: &mut MemorySink) -> bool {
+    let first = sink.write(b"one") == Ok(3) && sink.write(b"x") == Err(Fault::Failed);
+    let later = sink.write(b"y") == Ok(0) && sink.write(b"two") == Ok(3);
+    first && later && sink.bytes() == b"onetwo".as_slice() && sink.faults() == 1
+}
+
+fn is_kept(alloc: Global) -> Result<bool, Memory> {
     let mut sink = MemorySink::new(alloc);
     sink.fail_at(2)?;
     sink.nothing_at(3)?;
-    for (want, piece) in [
-        (Ok(3), "one"),
-        (Err(Fault::Failed), "x"),
-        (Ok(0), "y"),
-        (Ok(3), "two"),
-    ] {
-        assert_eq!(rt; sink.write(piece.as_bytes()), want, "at {piece}");
-    }
-    assert_eq!(rt; sink.bytes(), b"onetwo".as_slice());
-    assert_eq!(rt; sink.faults(), 1);
-    Ok(())
+    Ok(is_written(&mut sink))
+}
+
+#[test]
+fn sink_keeps_what_it_is_given(rt: HostRuntime) {
+    check(&rt, matches!(is_kept(rt.alloc()), Ok(true)), "output");
 }

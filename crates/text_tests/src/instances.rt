@@ -2,6 +2,7 @@
 //! those of PCG's reference code.
 ghost use Rattle.std.specs.Prelude.{◌≤◌};
 
+use crate::checks::{check, check_bytes};
 use instance_pairs::{Instance, InstanceFault, InstanceWhat, Pairs, read_instances};
 use objective::Memory;
 use scenario_files::PairOrder;
@@ -18,15 +19,16 @@ fn instances_text(alloc: Global, instances: &[Instance]) -> Result<String, Memor
 }
 
 /// Whether these instances are read.
-fn is_read_as(alloc: Global, file: &str, wanted: &str) -> Result<bool, InstanceFault> {
-    let instances = read_instances(alloc, file.as_bytes())?;
-    let text = instances_text(alloc, instances.as_slice())?;
-    Ok(text.as_str() == wanted)
+fn is_read_as(alloc: Global, file: &str, wanted: &str) -> Result<bool, Memory> {
+    match &read_instances(alloc, file.as_bytes()) {
+        Ok(instances) => Ok(instances_text(alloc, instances)?.as_str() == wanted),
+        Err(_) => Ok(false),
+    }
 }
 
 #[test]
 fn reads_instances(rt: HostRuntime) {
-    for (file, wanted) in [
+    for (file, wanted) in &[
         ("a", "[a|0]"),
         ("a\n", "[a|0]"),
         ("a b", "[a|b]"),
@@ -38,7 +40,8 @@ fn reads_instances(rt: HostRuntime) {
         ("a \u{a0}\n", "[a|\u{a0}]"),
         ("a\r\r\n", "[a\r|0]"),
     ] {
-        assert_eq!(rt; is_read_as(rt.alloc(), file, wanted), Ok(true), "in {file}");
+        let right = is_read_as(rt.alloc(), file, wanted);
+        check(&rt, matches!(right, Ok(true)), file);
     }
 }
 
@@ -52,13 +55,13 @@ fn at(line: u32, what: InstanceWhat) -> Option<InstanceFault> {
 
 #[test]
 fn finds_the_first_fault(rt: HostRuntime) {
-    for (text, line, what) in [
+    for (text, line, what) in &[
         (b"".as_slice(), 0, InstanceWhat::NoInstances),
         (b" \n\t\n".as_slice(), 0, InstanceWhat::NoInstances),
         (b"\xff".as_slice(), 1, InstanceWhat::NotText),
         (b"a\n\n \xc3\na\xff".as_slice(), 3, InstanceWhat::NotText),
     ] {
-        assert_eq!(rt; fault_of(rt.alloc(), text), at(line, what), "in {text:?}");
+        check_bytes(&rt, fault_of(rt.alloc(), text) == at(*line, *what), text);
     }
 }
 
@@ -84,12 +87,16 @@ fn reads_at_most_100_000_instances(rt: HostRuntime) {
         line: 100_003,
         what: InstanceWhat::TooMany,
     };
-    for (end, wanted) in [
+    for (end, wanted) in &[
         (b"".as_slice(), Ok(100_000)),
         (b"\n \n".as_slice(), Ok(100_000)),
         (b"\n \na\n\xff".as_slice(), Err(too_many)),
     ] {
-        assert_eq!(rt; count_with(rt.alloc(), end), Ok(wanted), "before {end:?}");
+        let right = match count_with(rt.alloc(), end) {
+            Ok(found) => found == *wanted,
+            Err(_) => false,
+        };
+        check_bytes(&rt, right, end);
     }
 }
 
@@ -102,12 +109,15 @@ fn fault_after_blanks(alloc: Global, end: &[u8]) -> Result<Option<InstanceFault>
 
 #[test]
 fn reads_at_most_16_mib(rt: HostRuntime) {
-    for (end, what) in [
+    for (end, what) in &[
         (b"".as_slice(), InstanceWhat::NoInstances),
         (b"\xff".as_slice(), InstanceWhat::TooMany),
     ] {
-        let found = fault_after_blanks(rt.alloc(), end);
-        assert_eq!(rt; found, Ok(at(0, what)), "before {end:?}");
+        let right = match fault_after_blanks(rt.alloc(), end) {
+            Ok(found) => found == at(0, *what),
+            Err(_) => false,
+        };
+        check_bytes(&rt, right, end);
     }
 }
 
@@ -129,25 +139,37 @@ fn have_text(alloc: Global, pairs: &Pairs, text: &str) -> Result<bool, Memory> {
 
 /// Whether the pairs have this text, and those of a copy.
 fn is_text_of(alloc: Global, pairs: &Pairs, text: &str) -> Result<bool, Memory> {
-    let copied = pairs.copy()?;
-    Ok(have_text(alloc, pairs, text)? && have_text(alloc, &copied, text)?)
+    match &pairs.copy() {
+        Ok(copied) => Ok(have_text(alloc, pairs, text)? && have_text(alloc, copied, text)?),
+        Err(_) => Ok(false),
+    }
 }
 
-/// Whether these are the pairs over a file's instances with the seed 42, and those of a copy.
-fn are_pairs(
+/// The pairs over a file's instances with the seed 42.
+fn pairs_over(
     alloc: Global,
     file: &str,
     deterministic: bool,
     order: PairOrder,
     wanted: u32,
-    text: &str,
-) -> Result<bool, InstanceFault>
+) -> Result<Pairs, InstanceFault>
     requires one { 1 ≤ wanted }
     requires most { wanted ≤ 10_000 }
 {
     let instances = read_instances(alloc, file.as_bytes())?;
-    let pairs = Pairs::new(alloc, instances, 42, deterministic, order, wanted)?;
-    Ok(is_text_of(alloc, &pairs, text)?)
+    Ok(Pairs::new(alloc, instances, 42, deterministic, order, wanted)?)
+}
+
+/// Whether these are the pairs, and those of a copy.
+fn are_pairs(
+    alloc: Global,
+    pairs: &Result<Pairs, InstanceFault>,
+    text: &str,
+) -> Result<bool, Memory> {
+    match pairs {
+        Ok(pairs) => is_text_of(alloc, pairs, text),
+        Err(_) => Ok(false),
+    }
 }
 
 const TWO: &str = "one\ntwo x y\n";
@@ -160,7 +182,7 @@ const SHUFFLED: &str =
 #[test]
 fn draws_pairs(rt: HostRuntime) {
     let (file, shuffled) = (PairOrder::File, PairOrder::Shuffled);
-    for (lines, deterministic, order, wanted, text) in [
+    for (lines, deterministic, order, wanted, text) in &[
         (
             TWO,
             false,
@@ -175,7 +197,8 @@ fn draws_pairs(rt: HostRuntime) {
         (THREE, false, shuffled, 1, "[one|0|1944288081]"),
         (THREE, true, shuffled, 9, "[one|0|0][three|0|0][two|0|0]"),
     ] {
-        let right = are_pairs(rt.alloc(), lines, deterministic, order, wanted, text);
-        assert_eq!(rt; right, Ok(true), "{text}");
+        let pairs = pairs_over(rt.alloc(), lines, *deterministic, *order, *wanted);
+        let right = are_pairs(rt.alloc(), &pairs, text);
+        check(&rt, matches!(right, Ok(true)), text);
     }
 }

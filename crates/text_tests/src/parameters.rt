@@ -2,6 +2,7 @@
 ghost use Rattle.std.specs.Prelude.{◌≡◌, ◌∷◌, [], IsTrue, IfOk};
 ghost use Rattle.param_space.specs.Space.{Belongs};
 
+use crate::checks::{check, check_bytes};
 use objective::Memory;
 use param_files::{ParamFault, ParamWhat, print_params, read_params};
 use param_space::{Condition, Config, Forbidden, Param, Pick, Space, SpaceWhat};
@@ -49,14 +50,21 @@ fn is_small(space: &Space) -> bool {
     }
 }
 
-fn small_is_read(alloc: Global) -> Result<bool, ParamFault> {
-    let space = space_of(alloc, SMALL)?;
-    Ok(is_small(&space))
+fn reads_small(read: &Result<Space, ParamFault>) -> bool {
+    match read {
+        Ok(space) => is_small(space),
+        Err(_) => false,
+    }
+}
+
+fn small_is_read(alloc: Global) -> bool {
+    let read = space_of(alloc, SMALL);
+    reads_small(&read)
 }
 
 #[test]
 fn reads_a_space(rt: HostRuntime) {
-    assert_eq!(rt; small_is_read(rt.alloc()), Ok(true));
+    check(&rt, small_is_read(rt.alloc()), SMALL);
 }
 
 /// Whether the space is printed so, after a line.
@@ -67,21 +75,20 @@ fn is_printed(alloc: Global, space: &Space, wanted: &str) -> Result<bool, Memory
 }
 
 /// Whether what is read of these lines is printed so.
-fn is_printed_as(alloc: Global, lines: &str, wanted: &str) -> Result<bool, ParamFault> {
-    let space = space_of(alloc, lines)?;
-    Ok(is_printed(alloc, &space, wanted)?)
+fn is_printed_as(alloc: Global, lines: &str, wanted: &str) -> Result<bool, Memory> {
+    match &space_of(alloc, lines) {
+        Ok(space) => is_printed(alloc, space, wanted),
+        Err(_) => Ok(false),
+    }
 }
 
 #[test]
 fn prints_what_it_reads(rt: HostRuntime) {
     let three = "x {a, b} [a]\ny {1, 2} [1]\ny | x in {a}\n";
     let small = "x {a, b} [b]\ny {1, 2, zwölf} [2]\ny | x in {b}\n{x=a, y=zwölf}\n";
-    for (lines, wanted) in [(three, three), (SMALL, small)] {
-        assert_eq!(rt;
-            is_printed_as(rt.alloc(), lines, wanted),
-            Ok(true),
-            "of {lines}"
-        );
+    for (lines, wanted) in &[(three, three), (SMALL, small)] {
+        let right = is_printed_as(rt.alloc(), lines, wanted);
+        check(&rt, matches!(right, Ok(true)), lines);
     }
 }
 
@@ -96,11 +103,11 @@ fn at(line: u32, what: ParamWhat) -> Option<ParamFault> {
 /// One file for each fault, and for each two of which the format says which is first.
 #[test]
 fn finds_the_first_fault(rt: HostRuntime) {
-    for (text, line, what) in [
+    for (text, line, what) in &[
         (b"x {a} [a]\n{\xff\n".as_slice(), 2, ParamWhat::NotText),
         (b"x {a} [a]\n{\n\xff".as_slice(), 2, ParamWhat::Form),
     ] {
-        assert_eq!(rt; fault_of(rt.alloc(), text), at(line, what), "in {text:?}");
+        check_bytes(&rt, fault_of(rt.alloc(), text) == at(*line, *what), text);
     }
 }
 
@@ -108,7 +115,7 @@ fn finds_the_first_fault(rt: HostRuntime) {
 /// first.
 #[test]
 fn finds_the_first_fault_of_a_space(rt: HostRuntime) {
-    for (text, line, what) in [
+    for (text, line, what) in &[
         ("x {a} [a]\nx {a, a} [b]", 2, SpaceWhat::DoubleName),
         ("x {a, a} [b]", 1, SpaceWhat::DoubleValue),
         ("x {a} [b]", 1, SpaceWhat::BadDefault),
@@ -135,113 +142,126 @@ fn finds_the_first_fault_of_a_space(rt: HostRuntime) {
         ),
     ] {
         let found = fault_of(rt.alloc(), text.as_bytes());
-        assert_eq!(rt; found, at(line, ParamWhat::Space(what)), "in {text}");
+        check(&rt, found == at(*line, ParamWhat::Space(*what)), text);
     }
 }
 
-/// A text: a head, the numbers below `count` in turn between `before` and `after`, and an end.
+/// A part of a text.
 #[derive(Clone, Copy)]
-struct Many {
-    head: &'static str,
+enum Piece {
+    /// This text.
+    Plain(&'static str),
+    /// The numbers below this one in turn between two texts.
+    Many(u32, &'static str, &'static str),
+}
+
+/// Appends the numbers below `count` in turn between two texts.
+fn push_many(
+    alloc: Global,
     count: u32,
-    before: &'static str,
-    after: &'static str,
-    end: &'static str,
-}
-
-/// This text with the numbers below `count` after its head.
-fn counted(
-    head: &'static str,
-    count: u32,
-    before: &'static str,
-    after: &'static str,
-    end: &'static str,
-) -> Many {
-    Many {
-        head,
-        count,
-        before,
-        after,
-        end,
+    before: &str,
+    after: &str,
+    text: &mut String,
+) -> Result<(), Memory> {
+    for i in 0..count {
+        text.push_str(format!(in alloc; "{before}{i}{after}")?.as_str())?;
     }
-}
-
-/// This text alone.
-fn plain(text: &'static str) -> Many {
-    counted(text, 0, "", "", "")
-}
-
-/// Appends the text.
-fn push_many(alloc: Global, many: &Many, text: &mut String) -> Result<(), Memory> {
-    text.push_str(many.head)?;
-    for i in 0..many.count {
-        text.push_str(many.before)?;
-        text.push_str(format!(in alloc; "{i}")?.as_str())?;
-        text.push_str(many.after)?;
-    }
-    text.push_str(many.end)?;
     Ok(())
 }
 
-/// The fault of these texts, one after another.
-fn fault_of_all(alloc: Global, all: &[Many]) -> Result<Option<ParamFault>, Memory> {
-    let mut text = String::new(alloc);
-    for many in all {
-        push_many(alloc, many, &mut text)?;
+/// Appends the pieces.
+fn push_pieces(alloc: Global, pieces: &[Piece], text: &mut String) -> Result<(), Memory> {
+    for piece in pieces {
+        match *piece {
+            Piece::Plain(plain) => text.push_str(plain)?,
+            Piece::Many(count, before, after) => push_many(alloc, count, before, after, text)?,
+        }
     }
-    Ok(fault_of(alloc, text.as_bytes()))
+    Ok(())
 }
+
+/// Whether a text has no fault, and has this one once the last pieces follow it.
+fn keeps_limit(
+    alloc: Global,
+    text: &mut String,
+    last: &[Piece],
+    fault: Option<ParamFault>,
+) -> Result<bool, Memory> {
+    let kept = fault_of(alloc, text.as_bytes()).is_none();
+    push_pieces(alloc, last, text)?;
+    Ok(kept && fault_of(alloc, text.as_bytes()) == fault)
+}
+
+/// Whether the kept pieces are a file, and one with this fault once the last ones follow.
+fn is_limit(
+    alloc: Global,
+    kept: &[Piece],
+    last: &[Piece],
+    fault: Option<ParamFault>,
+) -> Result<bool, Memory> {
+    let mut text = String::new(alloc);
+    push_pieces(alloc, kept, &mut text)?;
+    keeps_limit(alloc, &mut text, last, fault)
+}
+
+const TWO: Piece = Piece::Plain("x {a, b} [a]\ny {1} [1]\n");
+
+const PARAMS: Piece = Piece::Many(256, "p", " {a, b} [a]\n");
+
+const VALUES: Piece = Piece::Many(255, "v", ", ");
+
+const PICKS: Piece = Piece::Many(15, "p", "=b, ");
 
 /// Each text keeps a limit, and the text after it is past that.
 #[test]
 fn finds_too_many(rt: HostRuntime) {
-    let two = "x {a, b} [a]\ny {1} [1]\n";
-    let none = plain("");
-    let params = counted("", 256, "p", " {a, b} [a]\n", "");
     let too_many = ParamWhat::Space(SpaceWhat::TooMany);
-    for (name, kept, last, line, what) in [
-        ("form", [params, none], plain("p0 {"), 257, ParamWhat::Form),
+    for (name, kept, last, line, what) in &[
+        (
+            "form",
+            [PARAMS].as_slice(),
+            [Piece::Plain("p0 {")].as_slice(),
+            257,
+            ParamWhat::Form,
+        ),
         (
             "parameters",
-            [params, none],
-            plain("p0 {a, a} [b]"),
+            [PARAMS].as_slice(),
+            [Piece::Plain("p0 {a, a} [b]")].as_slice(),
             257,
             too_many,
         ),
         (
             "values",
-            [counted("x {", 255, "v", ", ", "w} [w]\n"), none],
-            counted("x {", 255, "v", ", ", "v, v} [w]"),
+            [Piece::Plain("x {"), VALUES, Piece::Plain("w} [w]\n")].as_slice(),
+            [Piece::Plain("x {"), VALUES, Piece::Plain("v, v} [w]")].as_slice(),
             2,
             too_many,
         ),
         (
             "conditions",
-            [counted(two, 1024, "y | x in {b} # ", "\n", ""), none],
-            plain("y | x in {b, b}"),
+            [TWO, Piece::Many(1024, "y | x in {b} # ", "\n")].as_slice(),
+            [Piece::Plain("y | x in {b, b}")].as_slice(),
             1027,
             too_many,
         ),
         (
             "clauses",
-            [counted(two, 4096, "{x=b} # ", "\n", ""), none],
-            plain("{x=b, x=b}"),
+            [TWO, Piece::Many(4096, "{x=b} # ", "\n")].as_slice(),
+            [Piece::Plain("{x=b, x=b}")].as_slice(),
             4099,
             too_many,
         ),
         (
             "picks",
-            [params, counted("{", 15, "p", "=b, ", "p15=b}\n")],
-            counted("{", 15, "p", "=b, ", "p0=b, p0=b}"),
+            [PARAMS, Piece::Plain("{"), PICKS, Piece::Plain("p15=b}\n")].as_slice(),
+            [Piece::Plain("{"), PICKS, Piece::Plain("p0=b, p0=b}")].as_slice(),
             258,
             too_many,
         ),
     ] {
-        let [first, second] = kept;
-        let found = fault_of_all(rt.alloc(), &[first, second]);
-        assert_eq!(rt; found, Ok(None), "the most {name}");
-        let found = fault_of_all(rt.alloc(), &[first, second, last]);
-        assert_eq!(rt; found, Ok(at(line, what)), "too many {name}");
+        let right = is_limit(rt.alloc(), kept, last, at(*line, *what));
+        check(&rt, matches!(right, Ok(true)), name);
     }
 }
 
@@ -253,16 +273,15 @@ fn fault_of_marks(alloc: Global, count: usize) -> Result<Option<ParamFault>, Mem
 
 #[test]
 fn reads_at_most_16_mib(rt: HostRuntime) {
-    for (count, what) in [
-        (16_777_216, SpaceWhat::NoParameters),
-        (16_777_217, SpaceWhat::TooMany),
+    for (name, count, what) in &[
+        ("16 MiB", 16_777_216, SpaceWhat::NoParameters),
+        ("more", 16_777_217, SpaceWhat::TooMany),
     ] {
-        let found = fault_of_marks(rt.alloc(), count);
-        assert_eq!(rt;
-            found,
-            Ok(at(0, ParamWhat::Space(what))),
-            "in {count} bytes"
-        );
+        let right = match fault_of_marks(rt.alloc(), *count) {
+            Ok(found) => found == at(0, ParamWhat::Space(*what)),
+            Err(_) => false,
+        };
+        check(&rt, right, name);
     }
 }
 
@@ -320,20 +339,28 @@ fn settles(alloc: Global, space: &Space) -> Result<bool, Memory> {
     Ok(settled && text.as_slice() == b"to x=bx=a y=1".as_slice())
 }
 
-/// Whether a space and its copy settle a configuration as they should.
-fn settles_with_copy(alloc: Global, space: &Space) -> Result<bool, Memory> {
-    let copied = space.copy()?;
-    Ok(settles(alloc, space)? && settles(alloc, &copied)?)
+/// Whether a copy of the space settles a configuration as it should.
+fn copy_settles(alloc: Global, space: &Space) -> Result<bool, Memory> {
+    match &space.copy() {
+        Ok(copied) => settles(alloc, copied),
+        Err(_) => Ok(false),
+    }
 }
 
 /// Whether the space of these lines and its copy settle a configuration as they should.
-fn space_settles(alloc: Global, lines: &str) -> Result<bool, ParamFault> {
-    let space = space_of(alloc, lines)?;
-    Ok(settles_with_copy(alloc, &space)?)
+fn space_settles(alloc: Global, lines: &str) -> Result<bool, Memory> {
+    match &space_of(alloc, lines) {
+        Ok(space) => Ok(settles(alloc, space)? && copy_settles(alloc, space)?),
+        Err(_) => Ok(false),
+    }
 }
 
 #[test]
 fn settles_and_prints(rt: HostRuntime) {
     let lines = "x {a, b} [a]\ny {1, 2} [1]\ny | x in {a}\n{x=a, y=2}";
-    assert_eq!(rt; space_settles(rt.alloc(), lines), Ok(true));
+    check(
+        &rt,
+        matches!(space_settles(rt.alloc(), lines), Ok(true)),
+        lines,
+    );
 }

@@ -1,4 +1,5 @@
 //! A scenario by value, and the first faults of scenario files and of words.
+use crate::checks::{check, check_bytes};
 use objective::{Memory, Micros};
 use plain_text::Text;
 use scenario_files::{
@@ -6,7 +7,7 @@ use scenario_files::{
     Words, fill, read_scenario, read_words,
 };
 use std::alloc::Global;
-use test_support::texts;
+use test_support::words_between;
 
 const USUAL: &str = "# A usual scenario.
 algo = ruby saps_wrapper.rb
@@ -47,14 +48,21 @@ fn is_usual(draft: &Draft) -> bool {
         && (draft.approach.is_none() && draft.n.is_none() && draft.pair_order.is_none())
 }
 
-fn usual_is_read(alloc: Global) -> Result<bool, ScenarioFault> {
-    let draft = read_scenario(alloc, USUAL.as_bytes())?;
-    Ok(is_usual(&draft))
+fn reads_usual(read: &Result<Draft, ScenarioFault>) -> bool {
+    match read {
+        Ok(draft) => is_usual(draft),
+        Err(_) => false,
+    }
+}
+
+fn usual_is_read(alloc: Global) -> bool {
+    let read = read_scenario(alloc, USUAL.as_bytes());
+    reads_usual(&read)
 }
 
 #[test]
 fn reads_a_usual_scenario(rt: HostRuntime) {
-    assert_eq!(rt; usual_is_read(rt.alloc()), Ok(true));
+    check(&rt, usual_is_read(rt.alloc()), USUAL);
 }
 
 fn fault_of(alloc: Global, text: &[u8]) -> Option<ScenarioFault> {
@@ -68,7 +76,7 @@ fn at(line: u32, what: ScenarioWhat) -> Option<ScenarioFault> {
 /// Each form, and numbers at their limits.
 #[test]
 fn takes_values(rt: HostRuntime) {
-    for line in [
+    for line in &[
         "algo = a = b # c",
         "execdir = .",
         "deterministic = 1",
@@ -105,13 +113,13 @@ fn takes_values(rt: HostRuntime) {
         "pair_order = shuffled",
         "pair_order = file",
     ] {
-        assert_eq!(rt; fault_of(rt.alloc(), line.as_bytes()), None, "in {line}");
+        check(&rt, fault_of(rt.alloc(), line.as_bytes()).is_none(), line);
     }
 }
 
 #[test]
 fn refuses_other_forms(rt: HostRuntime) {
-    for line in [
+    for line in &[
         "algo =",
         "execdir = \t",
         "paramfile = # p",
@@ -141,13 +149,13 @@ fn refuses_other_forms(rt: HostRuntime) {
         "pair_order = files",
     ] {
         let found = fault_of(rt.alloc(), line.as_bytes());
-        assert_eq!(rt; found, at(1, ScenarioWhat::BadValue), "in {line}");
+        check(&rt, found == at(1, ScenarioWhat::BadValue), line);
     }
 }
 
 #[test]
 fn refuses_numbers_past_their_limits(rt: HostRuntime) {
-    for line in [
+    for line in &[
         "cutoff_time = 0",
         "cutoff_time = 1000000.0000001",
         "cutoff_time = 1e99",
@@ -169,33 +177,36 @@ fn refuses_numbers_past_their_limits(rt: HostRuntime) {
         "cap_floor = 18446744073709.5516151",
     ] {
         let found = fault_of(rt.alloc(), line.as_bytes());
-        assert_eq!(rt; found, at(1, ScenarioWhat::OutOfRange), "in {line}");
+        check(&rt, found == at(1, ScenarioWhat::OutOfRange), line);
+    }
+}
+
+#[test]
+fn refuses_bytes_that_are_no_text(rt: HostRuntime) {
+    for text in &[b"N = 1 # \xff".as_slice(), b"\xff".as_slice()] {
+        let found = fault_of(rt.alloc(), text);
+        check_bytes(&rt, found == at(1, ScenarioWhat::NotText), text);
     }
 }
 
 /// One file for each two faults of which the format says which is first.
 #[test]
 fn finds_the_first_fault(rt: HostRuntime) {
-    for (text, line, what) in [
-        (b"N = 1 # \xff".as_slice(), 1, ScenarioWhat::NotText),
-        (b"\xff", 1, ScenarioWhat::NotText),
-        (b"N = 1\nspeed", 2, ScenarioWhat::NoEquals),
-        (b"algo # = a", 1, ScenarioWhat::NoEquals),
-        (b"\n\r", 2, ScenarioWhat::NoEquals),
-        (b"speed =", 1, ScenarioWhat::UnknownKey),
-        (b"= 3", 1, ScenarioWhat::UnknownKey),
-        (b"Algo = a", 1, ScenarioWhat::UnknownKey),
-        (b"scenariofile = s", 1, ScenarioWhat::UnknownKey),
-        (b"N = 1\n\nN = x", 3, ScenarioWhat::Twice),
-        (b"outdir =\noutdir = o", 2, ScenarioWhat::Twice),
-        (b"N = x\nspeed", 1, ScenarioWhat::BadValue),
-        (
-            b" \n# N\r\n\t# =\r\nN = 0\r\nN",
-            4,
-            ScenarioWhat::OutOfRange,
-        ),
+    for (text, line, what) in &[
+        ("N = 1\nspeed", 2, ScenarioWhat::NoEquals),
+        ("algo # = a", 1, ScenarioWhat::NoEquals),
+        ("\n\r", 2, ScenarioWhat::NoEquals),
+        ("speed =", 1, ScenarioWhat::UnknownKey),
+        ("= 3", 1, ScenarioWhat::UnknownKey),
+        ("Algo = a", 1, ScenarioWhat::UnknownKey),
+        ("scenariofile = s", 1, ScenarioWhat::UnknownKey),
+        ("N = 1\n\nN = x", 3, ScenarioWhat::Twice),
+        ("outdir =\noutdir = o", 2, ScenarioWhat::Twice),
+        ("N = x\nspeed", 1, ScenarioWhat::BadValue),
+        (" \n# N\r\n\t# =\r\nN = 0\r\nN", 4, ScenarioWhat::OutOfRange),
     ] {
-        assert_eq!(rt; fault_of(rt.alloc(), text), at(line, what), "in {text:?}");
+        let found = fault_of(rt.alloc(), text.as_bytes());
+        check(&rt, found == at(*line, *what), text);
     }
 }
 
@@ -210,58 +221,61 @@ fn are_read(words: &Words) -> bool {
         && (words.draft.execdir.is_none() && words.draft.workers.is_none())
 }
 
-fn words_are_read(alloc: Global, words: &[Text]) -> Result<bool, WordFault> {
-    let read = read_words(alloc, words)?;
-    Ok(are_read(&read))
+fn reads_right(read: &Result<Words, WordFault>) -> bool {
+    match read {
+        Ok(words) => are_read(words),
+        Err(_) => false,
+    }
 }
 
-fn given_are_read(alloc: Global, words: &[&str]) -> Result<bool, WordFault> {
-    let words = texts(alloc, words)?;
-    words_are_read(alloc, words.as_slice())
+fn words_are_read(alloc: Global, words: &[Text]) -> bool {
+    let read = read_words(alloc, words);
+    reads_right(&read)
+}
+
+fn given_are_read(alloc: Global, words: &str) -> Result<bool, Memory> {
+    let words = words_between(alloc, words)?;
+    Ok(words_are_read(alloc, words.as_slice()))
 }
 
 #[test]
 fn reads_words(rt: HostRuntime) {
-    let words = [
-        "-N",
-        "0010",
-        "-algo",
-        " a # b\n",
-        "-scenariofile",
-        " s",
-        "-outdir",
-        "",
-    ];
-    assert_eq!(rt; given_are_read(rt.alloc(), &words), Ok(true));
+    let words = "-N|0010|-algo| a # b\n|-scenariofile| s|-outdir|";
+    check(
+        &rt,
+        matches!(given_are_read(rt.alloc(), words), Ok(true)),
+        words,
+    );
 }
 
-fn fault_of_words(alloc: Global, words: &[&str]) -> Result<Option<WordFault>, Memory> {
-    let words = texts(alloc, words)?;
-    Ok(read_words(alloc, words.as_slice()).err())
+/// Whether the key word at this place is the first wrong one.
+fn is_wrong_at(alloc: Global, words: &str, place: u32) -> Result<bool, Memory> {
+    let words = words_between(alloc, words)?;
+    let found = read_words(alloc, words.as_slice()).err();
+    Ok(found == Some(WordFault::At { place }))
 }
 
-/// The first key word that is wrong.
 #[test]
 fn finds_the_wrong_word(rt: HostRuntime) {
-    for (words, place) in [
-        ([].as_slice(), 0),
-        (["-N", "1"].as_slice(), 2),
-        (["-N", "1", "-r"].as_slice(), 2),
-        (["-scenariofile"].as_slice(), 0),
-        (["-scenariofile", "s", "-N"].as_slice(), 2),
-        (["-scenariofile", " \t", "-N", "0"].as_slice(), 0),
-        (["-scenariofile", "", "-N", "0"].as_slice(), 0),
-        (["scenariofile", "s"].as_slice(), 0),
-        (["-scenariofile", "s", "-scenariofile", "s"].as_slice(), 2),
-        (["-scenariofile", "s", "-workers", "0"].as_slice(), 2),
-        (["-scenariofile", "s", "-workers", " 1"].as_slice(), 2),
-        (["-scenariofile", "s", "--workers", "1"].as_slice(), 2),
-        (["-scenariofile", "s", "-algo", "\t"].as_slice(), 2),
-        (["-scenariofile", "s", "-", "1", "-N", "0"].as_slice(), 2),
-        (["-N", "1", "-scenariofile", "s", "-N", "1"].as_slice(), 4),
+    for (words, place) in &[
+        ("", 0),
+        ("-N|1", 2),
+        ("-N|1|-r", 2),
+        ("-scenariofile", 0),
+        ("-scenariofile|s|-N", 2),
+        ("-scenariofile| \t|-N|0", 0),
+        ("-scenariofile||-N|0", 0),
+        ("scenariofile|s", 0),
+        ("-scenariofile|s|-scenariofile|s", 2),
+        ("-scenariofile|s|-workers|0", 2),
+        ("-scenariofile|s|-workers| 1", 2),
+        ("-scenariofile|s|--workers|1", 2),
+        ("-scenariofile|s|-algo|\t", 2),
+        ("-scenariofile|s|-|1|-N|0", 2),
+        ("-N|1|-scenariofile|s|-N|1", 4),
     ] {
-        let found = fault_of_words(rt.alloc(), words);
-        assert_eq!(rt; found, Ok(Some(WordFault::At { place })), "in {words:?}");
+        let right = is_wrong_at(rt.alloc(), words, *place);
+        check(&rt, matches!(right, Ok(true)), words);
     }
 }
 
@@ -289,30 +303,42 @@ fn has_defaults(scenario: &Scenario) -> bool {
         && scenario.pair_order == PairOrder::Shuffled
 }
 
-/// Whether these drafts are filled to the scenario of SMALL and the words.
-fn fills(alloc: Global, file: Draft, words: Draft) -> Result<bool, ScenarioFault> {
-    let scenario = fill(alloc, file, words)?;
-    Ok(is_filled(&scenario) && has_defaults(&scenario))
-}
-
-/// Whether a scenario of SMALL is filled by these words.
-fn fills_small(alloc: Global, words: &[Text]) -> Result<bool, ScenarioFault> {
-    let file = read_scenario(alloc, SMALL.as_bytes())?;
-    match read_words(alloc, words) {
-        Ok(read) => fills(alloc, file, read.draft),
-        Err(_) => Ok(false),
+/// Whether this is the scenario of SMALL and the words.
+fn fills_right(filled: &Result<Scenario, ScenarioFault>) -> bool {
+    match filled {
+        Ok(scenario) => is_filled(scenario) && has_defaults(scenario),
+        Err(_) => false,
     }
 }
 
-fn is_filled_by(alloc: Global, words: &[&str]) -> Result<bool, ScenarioFault> {
-    let words = texts(alloc, words)?;
-    fills_small(alloc, words.as_slice())
+/// Whether these drafts are filled to the scenario of SMALL and the words.
+fn fills(alloc: Global, file: Draft, words: Draft) -> bool {
+    let filled = fill(alloc, file, words);
+    fills_right(&filled)
+}
+
+/// Whether a scenario of SMALL is filled by these words.
+fn fills_small(alloc: Global, words: &[Text]) -> bool {
+    let file = read_scenario(alloc, SMALL.as_bytes());
+    match (file, read_words(alloc, words)) {
+        (Ok(file), Ok(read)) => fills(alloc, file, read.draft),
+        _ => false,
+    }
+}
+
+fn is_filled_by(alloc: Global, words: &str) -> Result<bool, Memory> {
+    let words = words_between(alloc, words)?;
+    Ok(fills_small(alloc, words.as_slice()))
 }
 
 #[test]
 fn fills_a_scenario(rt: HostRuntime) {
-    let words = ["-N", "8", "-scenariofile", "s", "-outdir", "o"];
-    assert_eq!(rt; is_filled_by(rt.alloc(), &words), Ok(true));
+    let words = "-N|8|-scenariofile|s|-outdir|o";
+    check(
+        &rt,
+        matches!(is_filled_by(rt.alloc(), words), Ok(true)),
+        words,
+    );
 }
 
 /// The fault of filling what is read of these files.
@@ -321,17 +347,17 @@ fn fault_filled(
     file: &str,
     over: &str,
 ) -> Result<Option<ScenarioFault>, ScenarioFault> {
-    let file = read_scenario(alloc, file.as_bytes())?;
-    match read_scenario(alloc, over.as_bytes()) {
-        Ok(over) => Ok(fill(alloc, file, over).err()),
-        Err(fault) => Err(fault),
+    let file = read_scenario(alloc, file.as_bytes());
+    match (file, read_scenario(alloc, over.as_bytes())) {
+        (Ok(file), Ok(over)) => Ok(fill(alloc, file, over).err()),
+        (Err(fault), _) | (_, Err(fault)) => Err(fault),
     }
 }
 
 #[test]
 fn finds_what_is_missing(rt: HostRuntime) {
     let missing = at(0, ScenarioWhat::Missing);
-    for (file, over, fault) in [
+    for (file, over, fault) in &[
         (
             "cutoff_time = 1\nparamfile = p\ninstance_file = i",
             "algo = a",
@@ -342,11 +368,11 @@ fn finds_what_is_missing(rt: HostRuntime) {
         ("cutoff_time = 1\nparamfile = p", "algo = a", missing),
         (USUAL, "", None),
     ] {
-        assert_eq!(rt;
-            fault_filled(rt.alloc(), file, over),
-            Ok(fault),
-            "of {file}"
-        );
+        let right = match fault_filled(rt.alloc(), file, over) {
+            Ok(found) => found == *fault,
+            Err(_) => false,
+        };
+        check(&rt, right, file);
     }
 }
 
@@ -358,12 +384,15 @@ fn fault_of_marks(alloc: Global, count: usize) -> Result<Option<ScenarioFault>, 
 
 #[test]
 fn reads_at_most_16_mib(rt: HostRuntime) {
-    for (count, wanted) in [
-        (16_777_216, None),
-        (16_777_217, at(0, ScenarioWhat::BadValue)),
+    for (name, count, wanted) in &[
+        ("16 MiB", 16_777_216, None),
+        ("more", 16_777_217, at(0, ScenarioWhat::BadValue)),
     ] {
-        let found = fault_of_marks(rt.alloc(), count);
-        assert_eq!(rt; found, Ok(wanted), "in {count} bytes");
+        let right = match fault_of_marks(rt.alloc(), *count) {
+            Ok(found) => found == *wanted,
+            Err(_) => false,
+        };
+        check(&rt, right, name);
     }
 }
 
@@ -378,16 +407,16 @@ fn fault_of_digits(alloc: Global, key: &str) -> Result<Option<ScenarioFault>, Me
 
 #[test]
 fn reads_any_number_of_digits(rt: HostRuntime) {
-    for (key, what) in [
+    for (key, what) in &[
         ("workers = ", ScenarioWhat::OutOfRange),
         ("cutoff_time = ", ScenarioWhat::OutOfRange),
         ("deterministic = ", ScenarioWhat::BadValue),
         ("speed = ", ScenarioWhat::UnknownKey),
     ] {
-        assert_eq!(rt;
-            fault_of_digits(rt.alloc(), key),
-            Ok(at(1, what)),
-            "after {key}"
-        );
+        let right = match fault_of_digits(rt.alloc(), key) {
+            Ok(found) => found == at(1, *what),
+            Err(_) => false,
+        };
+        check(&rt, right, key);
     }
 }

@@ -7,7 +7,7 @@ use outside::{MemoryFiles, MemorySink, Script, TableSeat};
 use plain_text::Text;
 use std::alloc::Global;
 use std::sync::Wait;
-use test_support::{numbers, texts};
+use test_support::{numbers, words_between};
 use tuner::{Seat, Status, tune};
 
 /// A file: its name and its bytes.
@@ -27,7 +27,7 @@ pub fn usual() -> [File<'static>; 3] {
 }
 
 /// The words of a tuning that ends with the opening evaluation.
-pub const WORDS: [&str; 4] = ["-scenariofile", "s", "-maxComparisons", "0"];
+pub const WORDS: &str = "-scenariofile|s|-maxComparisons|0";
 
 /// What goes wrong, by numbers from 1; 0 where nothing does.
 #[derive(Clone, Copy)]
@@ -73,16 +73,12 @@ pub struct Tuning {
     pub others: usize,
 }
 
-/// These files; a later one stands in the place of an earlier one of its name.
-fn folder(alloc: Global, files: &[File<'_>], changes: &[File<'_>]) -> Result<MemoryFiles, Memory> {
-    let mut folder = MemoryFiles::new(alloc);
+/// Puts these files into a folder; each stands in the place of an earlier one of its name.
+fn put_all(folder: &mut MemoryFiles, files: &[File<'_>]) -> Result<(), Memory> {
     for (name, bytes) in files {
         folder.put(name, bytes)?;
     }
-    for (name, bytes) in changes {
-        folder.put(name, bytes)?;
-    }
-    Ok(folder)
+    Ok(())
 }
 
 /// An output with these faults.
@@ -167,17 +163,19 @@ fn tuned<R: Wait>(
     tune(rt, alloc, words, files, out, &mut log, seats)
 }
 
-/// A tuning by these words over these files.
-fn ran_over<R: Wait>(
+/// What a tuning by these words, parted by bars, over this folder and two seats comes to.
+fn ran_in<R: Wait>(
     rt: &R,
     alloc: Global,
-    words: &[Text],
-    files: &mut MemoryFiles,
+    words: &str,
+    folder: &mut MemoryFiles,
     faults: &Faults,
 ) -> Result<Tuning, Memory> {
+    let words = words_between(alloc, words)?;
+    folder.fail_at(faults.read)?;
     let mut out = sink(alloc, faults)?;
     let mut seats = [seat(alloc, faults)?, seat(alloc, faults)?];
-    let status = tuned(rt, alloc, words, files, &mut out, &mut seats);
+    let status = tuned(rt, alloc, words.as_slice(), folder, &mut out, &mut seats);
     outcome(
         alloc,
         status,
@@ -187,33 +185,53 @@ fn ran_over<R: Wait>(
     )
 }
 
-/// Runs a tuning by these words over two seats and these files, of which the changes stand in
-/// the place of those of their name.
+/// What a tuning by these words, parted by bars, over two seats and the usual files comes to, in the place of
+/// which these stand, where they have their names.
 pub fn ran<R: Wait>(
     rt: &R,
     alloc: Global,
-    words: &[&str],
+    words: &str,
     files: &[File<'_>],
-    changes: &[File<'_>],
     faults: &Faults,
 ) -> Result<Tuning, Memory> {
-    let words = texts(alloc, words)?;
-    let mut folder = folder(alloc, files, changes)?;
-    folder.fail_at(faults.read)?;
-    ran_over(rt, alloc, words.as_slice(), &mut folder, faults)
+    let mut folder = MemoryFiles::new(alloc);
+    put_all(&mut folder, &usual())?;
+    put_all(&mut folder, files)?;
+    ran_in(rt, alloc, words, &mut folder, faults)
 }
 
-/// Runs a tuning by these words over the usual files and no seat: how it ends, and what it
-/// prints.
-pub fn ran_unseated<R: Wait>(
+/// What a tuning by these words, parted by bars, over two seats and these files alone comes to.
+pub fn ran_alone<R: Wait>(
     rt: &R,
     alloc: Global,
-    words: &[&str],
-) -> Result<(Status, Vec<u8>), Memory> {
-    let words = texts(alloc, words)?;
-    let mut files = folder(alloc, &usual(), &[])?;
+    words: &str,
+    files: &[File<'_>],
+) -> Result<Tuning, Memory> {
+    let mut folder = MemoryFiles::new(alloc);
+    put_all(&mut folder, files)?;
+    ran_in(rt, alloc, words, &mut folder, &NONE)
+}
+
+/// Whether a tuning by these words, parted by bars, over the usual files and no seat ends so, and prints this.
+pub fn is_unseated<R: Wait>(
+    rt: &R,
+    alloc: Global,
+    words: &str,
+    status: Status,
+    printed: &[u8],
+) -> Result<bool, Memory> {
+    let words = words_between(alloc, words)?;
+    let mut folder = MemoryFiles::new(alloc);
+    put_all(&mut folder, &usual())?;
     let mut out = MemorySink::new(alloc);
     let mut none: [Seat<TableSeat<Rows>>; 0] = [];
-    let status = tuned(rt, alloc, words.as_slice(), &mut files, &mut out, &mut none);
-    Ok((status, Vec::from_slice(alloc, out.bytes())?))
+    let ended = tuned(
+        rt,
+        alloc,
+        words.as_slice(),
+        &mut folder,
+        &mut out,
+        &mut none,
+    );
+    Ok(ended == status && out.bytes() == printed)
 }

@@ -4,5 +4,7 @@
 mod harness;
 mod rows;
 
-pub use harness::{Faults, File, NONE, SCENARIO, Tuning, WORDS, ran, ran_unseated, usual};
+pub use harness::{
+    Faults, File, NONE, SCENARIO, Tuning, WORDS, is_unseated, ran, ran_alone, usual,
+};
 pub use rows::Rows;

@@ -3,8 +3,8 @@
 #![tactic(auto)]
 
 #[cfg(test)]
+mod checks;
+#[cfg(test)]
 mod scenarios;
 #[cfg(test)]
 mod searches;
-#[cfg(test)]
-mod spaces;

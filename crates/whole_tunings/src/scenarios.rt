@@ -1,84 +1,171 @@
-//! The default settings, the pairs that words and files ask for, and a usual scenario.
-use std::test::Fail;
+//! The default settings, the pairs that words and files ask for, inactive parameters, and a
+//! usual scenario.
+use crate::checks::check;
+use objective::Memory;
+use std::alloc::Global;
+use std::sync::Wait;
 use tuner::Status;
-use tuning_harness::{NONE, WORDS, ran, usual};
+use tuning_harness::{File, NONE, WORDS, ran};
 
-#[test]
-fn default_settings_print_one_entry(rt: HostRuntime) -> Result<(), Fail> {
-    let ran = ran(&rt, rt.alloc(), &WORDS, &usual(), &[], &NONE)?;
-    assert_eq!(rt; (ran.status, ran.status.code()), (Status::Ok, 0));
-    assert_eq!(rt;
-        ran.printed.as_slice(),
-        b"0 2 7.000000 x=a\nend 0 2 7.000000 x=a\n".as_slice()
-    );
-    assert_eq!(rt;
-        ran.starts.as_str(),
-        "w one 0 10.000000 2147483647 1 -x a\nw one 0 10.000000 2147483647 2 -x a\n"
-    );
-    Ok(())
+/// Whether a tuning by these words over the usual files and these is Ok, and prints this.
+fn is_printed<R: Wait>(
+    rt: &R,
+    alloc: Global,
+    words: &str,
+    files: &[File<'_>],
+    printed: &str,
+) -> Result<bool, Memory> {
+    let ran = ran(rt, alloc, words, files, &NONE)?;
+    let right = ran.status == Status::Ok && ran.status.code() == 0;
+    Ok(right && ran.printed.as_slice() == printed.as_bytes())
 }
 
-// The first pair isn't solved, and the child of the second crashes.
-#[test]
-fn unsolved_pairs_cost_the_cutoff(rt: HostRuntime) -> Result<(), Fail> {
-    let files = [("i", b"one uc\n".as_slice())];
-    let ran = ran(&rt, rt.alloc(), &WORDS, &usual(), &files, &NONE)?;
-    assert_eq!(rt; ran.status, Status::Ok);
-    assert_eq!(rt;
-        ran.printed.as_slice(),
-        b"0 2 20.000000 x=a\nend 0 2 20.000000 x=a\n".as_slice()
-    );
-    Ok(())
+/// Whether a tuning by these words over the usual files and these is Ok, and starts so many
+/// children of the first seat alone, the first ones with these words.
+fn is_started<R: Wait>(
+    rt: &R,
+    alloc: Global,
+    words: &str,
+    files: &[File<'_>],
+    count: usize,
+    starts: &str,
+) -> Result<bool, Memory> {
+    let ran = ran(rt, alloc, words, files, &NONE)?;
+    let right = ran.status == Status::Ok && ran.started == count && ran.others == 0;
+    Ok(right && ran.starts.as_str().starts_with(starts))
 }
 
-#[test]
-fn the_first_of_two_seats_runs_all(rt: HostRuntime) -> Result<(), Fail> {
-    let words = [
-        "-scenariofile",
-        "s",
-        "-maxComparisons",
-        "0",
-        "-workers",
-        "2",
-    ];
-    let ran = ran(&rt, rt.alloc(), &words, &usual(), &[], &NONE)?;
-    assert_eq!(rt; ran.status, Status::Ok);
-    assert_eq!(rt;
-        ran.printed.as_slice(),
-        b"0 2 7.000000 x=a\nend 0 2 7.000000 x=a\n".as_slice()
-    );
-    assert_eq!(rt; (ran.started, ran.others), (2, 0));
-    Ok(())
-}
+/// The words for two seats.
+const TWO_SEATS: &str = "-scenariofile|s|-maxComparisons|0|-workers|2";
 
 /// The words for five pairs of each comparison.
-const FIVE: [&str; 6] = ["-scenariofile", "s", "-maxComparisons", "0", "-N", "5"];
+const FIVE: &str = "-scenariofile|s|-maxComparisons|0|-N|5";
 
 /// The words for five pairs that are shuffled with the seed 42.
-const SHUFFLED: [&str; 10] = [
-    "-scenariofile",
-    "s",
-    "-maxComparisons",
-    "0",
-    "-N",
-    "5",
-    "-numRun",
-    "42",
-    "-pair_order",
-    "shuffled",
-];
+const SHUFFLED: &str = "-scenariofile|s|-maxComparisons|0|-N|5|-numRun|42|-pair_order|shuffled";
 
 /// The words for runs that depend on no seed.
-const DETERMINISTIC: [&str; 8] = [
-    "-scenariofile",
-    "s",
-    "-maxComparisons",
-    "0",
-    "-N",
-    "5",
-    "-deterministic",
-    "1",
-];
+const DETERMINISTIC: &str = "-scenariofile|s|-maxComparisons|0|-N|5|-deterministic|1";
+
+/// The words for one comparison of the usual scenario.
+const SAPS_WORDS: &str =
+    "-scenariofile|saps|-maxComparisons|1|-numRun|1|-pair_order|file|-approach|basic";
+
+/// A scenario as the quickstart guide of ParamILS has it.
+const SAPS: &str = "algo = ruby saps_wrapper.rb
+execdir = example_saps
+deterministic = 0
+run_obj = runtime
+overall_obj = mean10
+cutoff_time = 5.0
+cutoff_length = max
+tunerTimeout = 300
+paramfile = p
+outdir = out
+instance_file = i
+test_instance_file = t
+";
+
+/// The parameters of the solver SAPS.
+const SAPS_PARAMS: &str = "alpha {1.01, 1.066, 1.126, 1.189, 1.256, 1.326, 1.4} [1.189]
+ps {0, 0.033, 0.066, 0.1, 0.133, 0.166, 0.2} [0.1]
+rho {0, 0.17, 0.333, 0.5, 0.666, 0.83, 1} [0.5]
+wp {0, 0.01, 0.02, 0.03, 0.04, 0.05, 0.06} [0.03]
+";
+
+const SAPS_INSTANCES: &str = "cnf/a.cnf\ncnf/b.cnf\n";
+
+/// y is inactive where x is b, as it is at first; the forbidden clause is of no configuration
+/// in which y is active.
+const INACTIVE: &str =
+    "x {a, b} [b]\ny {1, 2} [1]\nForbidden:\n{x=b, y=1}\nConditionals:\ny | x in {a}";
+
+/// The same with y active at first.
+const ACTIVE: &str =
+    "x {a, b} [a]\ny {1, 2} [1]\nForbidden:\n{x=b, y=1}\nConditionals:\ny | x in {a}";
+
+const DEFAULT: &str = "0 2 7.000000 x=a\nend 0 2 7.000000 x=a\n";
+
+const DRAWN: &str =
+    "algo = w\nparamfile = p\ninstance_file = i\ncutoff_time = 10\ncap_floor = 0.000001\napproach = basic\nN = 3\nr = 2\ns = 1\np_restart = 0.0100\npair_order = file\n";
+
+#[test]
+fn tunings_print_their_lines(rt: HostRuntime) {
+    for (name, words, files, printed) in &[
+        ("default settings", WORDS, [].as_slice(), DEFAULT),
+        ("the first of two seats", TWO_SEATS, [].as_slice(), DEFAULT),
+        // The first pair isn't solved, and the child of the second crashes.
+        (
+            "pairs without a solution cost the cutoff",
+            WORDS,
+            [("i", b"one uc\n".as_slice())].as_slice(),
+            "0 2 20.000000 x=a\nend 0 2 20.000000 x=a\n",
+        ),
+        (
+            "deterministic runs",
+            DETERMINISTIC,
+            [("i", b"one\ntwo\n".as_slice())].as_slice(),
+            "0 2 8.000000 x=a\nend 0 2 8.000000 x=a\n",
+        ),
+        (
+            "an inactive parameter",
+            WORDS,
+            [("p", INACTIVE.as_bytes()), ("i", b"one 2222\n".as_slice())].as_slice(),
+            "0 2 4.000000 x=b\nend 0 2 4.000000 x=b\n",
+        ),
+        (
+            "an active parameter",
+            WORDS,
+            [("p", ACTIVE.as_bytes()), ("i", b"one 2222\n".as_slice())].as_slice(),
+            "0 2 4.000000 x=a y=1\nend 0 2 4.000000 x=a y=1\n",
+        ),
+        (
+            "a usual scenario",
+            SAPS_WORDS,
+            [
+                ("saps", SAPS.as_bytes()),
+                ("p", SAPS_PARAMS.as_bytes()),
+                ("i", SAPS_INSTANCES.as_bytes()),
+            ]
+            .as_slice(),
+            "0 100 399.000000 alpha=1.189 ps=0.1 rho=0.5 wp=0.03\nend 1 100 399.000000 alpha=1.189 ps=0.1 rho=0.5 wp=0.03\n",
+        ),
+        // The example of the README, with initial draws, restarts and several neighbours: its
+        // wrapper takes 1.25 and 4 seconds with the heuristic `first`, and 1.5 and 2 with the
+        // heuristic `random`.
+        (
+            "ten comparisons of the heuristics",
+            "-scenariofile|s|-maxComparisons|10",
+            [
+                ("s", DRAWN.as_bytes()),
+                (
+                    "p",
+                    b"heuristic {first, random} [first]\nrestarts {0, 10, 100} [10]\n".as_slice(),
+                ),
+                ("i", b"easy qqhh\nhard 4422\n".as_slice()),
+            ]
+            .as_slice(),
+            "0 3 6.500000 heuristic=first restarts=10\n8 3 5.000000 heuristic=random restarts=100\nend 10 3 5.000000 heuristic=random restarts=100\n",
+        ),
+    ] {
+        let right = is_printed(&rt, rt.alloc(), words, files, printed);
+        check(&rt, matches!(right, Ok(true)), name);
+    }
+}
+
+const TWO_PAIRS: &str = "w one 0 10.000000 2147483647 1 -x a
+w one 0 10.000000 2147483647 2 -x a
+";
+
+/// The children of the first comparison: a on both pairs twice, then b, all under the full
+/// cutoff.
+const IN_FULL: &str = "w one 0 10.000000 2147483647 1 -x a
+w one 0 10.000000 2147483647 2 -x a
+w one 0 10.000000 2147483647 1 -x a
+w one 0 10.000000 2147483647 2 -x a
+w one 0 10.000000 2147483647 1 -x b
+w one 0 10.000000 2147483647 2 -x b
+";
 
 const IN_FILE_ORDER: &str = "w one 0 10.000000 2147483647 1 -x a
 w two easy  one 10.000000 2147483647 2 -x a
@@ -105,108 +192,95 @@ w two 0 10.000000 2147483647 0 -x a
 ";
 
 #[test]
-fn pairs_come_in_their_order(rt: HostRuntime) -> Result<(), Fail> {
-    for (words, instances, starts) in [
+fn tunings_start_their_children(rt: HostRuntime) {
+    for (name, words, files, count, starts) in &[
+        ("default settings", WORDS, [].as_slice(), 2, TWO_PAIRS),
         (
-            FIVE.as_slice(),
-            b"one\ntwo  easy  one \n".as_slice(),
+            "the first of two seats",
+            TWO_SEATS,
+            [].as_slice(),
+            2,
+            TWO_PAIRS,
+        ),
+        (
+            "each evaluation in full",
+            "-scenariofile|s|-maxComparisons|1",
+            [].as_slice(),
+            6,
+            IN_FULL,
+        ),
+        (
+            "pairs in file order",
+            FIVE,
+            [("i", b"one\ntwo  easy  one \n".as_slice())].as_slice(),
+            5,
             IN_FILE_ORDER,
         ),
         (
-            SHUFFLED.as_slice(),
-            b"one\ntwo\nthree".as_slice(),
+            "shuffled pairs",
+            SHUFFLED,
+            [("i", b"one\ntwo\nthree".as_slice())].as_slice(),
+            5,
             IN_SHUFFLED_ORDER,
         ),
         (
-            DETERMINISTIC.as_slice(),
-            b"one\ntwo\n".as_slice(),
+            "deterministic runs",
+            DETERMINISTIC,
+            [("i", b"one\ntwo\n".as_slice())].as_slice(),
+            2,
             ONCE_EACH,
         ),
+        (
+            "an inactive parameter isn't passed on",
+            WORDS,
+            [("p", INACTIVE.as_bytes()), ("i", b"one 2222\n".as_slice())].as_slice(),
+            2,
+            "w one 2222 10.000000 2147483647 1 -x b\nw one 2222 10.000000 2147483647 2 -x b\n",
+        ),
+        (
+            "an active parameter is passed on",
+            WORDS,
+            [("p", ACTIVE.as_bytes()), ("i", b"one 2222\n".as_slice())].as_slice(),
+            2,
+            "w one 2222 10.000000 2147483647 1 -x a -y 1\nw one 2222 10.000000 2147483647 2 -x a -y 1\n",
+        ),
+        // The opening evaluation and the two of the comparison have 100 runs each.
+        (
+            "a usual scenario",
+            SAPS_WORDS,
+            [
+                ("saps", SAPS.as_bytes()),
+                ("p", SAPS_PARAMS.as_bytes()),
+                ("i", SAPS_INSTANCES.as_bytes()),
+            ]
+            .as_slice(),
+            300,
+            "ruby saps_wrapper.rb cnf/a.cnf 0 5.000000 2147483647 1 -alpha 1.189 -ps 0.1 -rho 0.5 -wp 0.03\n",
+        ),
     ] {
-        let ran = ran(&rt, rt.alloc(), words, &usual(), &[("i", instances)], &NONE)?;
-        assert_eq!(rt; ran.status, Status::Ok, "{words:?}");
-        assert_eq!(rt; ran.starts.as_str(), starts, "{words:?}");
+        let right = is_started(&rt, rt.alloc(), words, files, *count, starts);
+        check(&rt, matches!(right, Ok(true)), name);
     }
-    Ok(())
+}
+
+/// Whether a tuning by these words over these files asks for what isn't built.
+fn is_unbuilt<R: Wait>(
+    rt: &R,
+    alloc: Global,
+    words: &str,
+    files: &[File<'_>],
+) -> Result<bool, Memory> {
+    let ran = ran(rt, alloc, words, files, &NONE)?;
+    Ok(ran.status == Status::Unbuilt && ran.printed.as_slice() == b"unbuilt\n".as_slice())
 }
 
 #[test]
-fn deterministic_runs_take_each_instance_once(rt: HostRuntime) -> Result<(), Fail> {
-    let files = [("i", b"one\ntwo\n".as_slice())];
-    let ran = ran(&rt, rt.alloc(), &DETERMINISTIC, &usual(), &files, &NONE)?;
-    assert_eq!(rt;
-        ran.printed.as_slice(),
-        b"0 2 8.000000 x=a\nend 0 2 8.000000 x=a\n".as_slice()
-    );
-    Ok(())
-}
-
-/// A scenario as the quickstart guide of ParamILS has it.
-const SAPS: &str = "algo = ruby saps_wrapper.rb
-execdir = example_saps
-deterministic = 0
-run_obj = runtime
-overall_obj = mean10
-cutoff_time = 5.0
-cutoff_length = max
-tunerTimeout = 300
-paramfile = p
-outdir = out
-instance_file = i
-test_instance_file = t
-";
-
-/// The parameters of the solver SAPS.
-const PARAMS: &str = "alpha {1.01, 1.066, 1.126, 1.189, 1.256, 1.326, 1.4} [1.189]
-ps {0, 0.033, 0.066, 0.1, 0.133, 0.166, 0.2} [0.1]
-rho {0, 0.17, 0.333, 0.5, 0.666, 0.83, 1} [0.5]
-wp {0, 0.01, 0.02, 0.03, 0.04, 0.05, 0.06} [0.03]
-";
-
-#[test]
-fn a_usual_scenario_is_read_as_it_stands(rt: HostRuntime) -> Result<(), Fail> {
-    let words = [
-        "-scenariofile",
-        "saps",
-        "-maxComparisons",
-        "1",
-        "-numRun",
-        "1",
-        "-pair_order",
-        "file",
-        "-approach",
-        "basic",
-    ];
+fn a_usual_scenario_asks_for_focused_search(rt: HostRuntime) {
     let files = [
         ("saps", SAPS.as_bytes()),
-        ("p", PARAMS.as_bytes()),
-        ("i", b"cnf/a.cnf\ncnf/b.cnf\n"),
+        ("p", SAPS_PARAMS.as_bytes()),
+        ("i", SAPS_INSTANCES.as_bytes()),
     ];
-    let ran = ran(&rt, rt.alloc(), &words, &files, &[], &NONE)?;
-    assert_eq!(rt; ran.status, Status::Ok);
-    assert_eq!(rt;
-        ran.printed.as_slice(),
-        b"0 100 399.000000 alpha=1.189 ps=0.1 rho=0.5 wp=0.03\nend 1 100 399.000000 alpha=1.189 ps=0.1 rho=0.5 wp=0.03\n".as_slice()
-    );
-    assert_eq!(rt;
-        ran.starts.split('\n').next(),
-        Some(
-            "ruby saps_wrapper.rb cnf/a.cnf 0 5.000000 2147483647 1 -alpha 1.189 -ps 0.1 -rho 0.5 -wp 0.03"
-        )
-    );
-    Ok(())
-}
-
-#[test]
-fn a_usual_scenario_asks_for_focused_search(rt: HostRuntime) -> Result<(), Fail> {
-    let files = [
-        ("saps", SAPS.as_bytes()),
-        ("p", PARAMS.as_bytes()),
-        ("i", b"cnf/a.cnf\ncnf/b.cnf\n"),
-    ];
-    let words = ["-scenariofile", "saps"];
-    let ran = ran(&rt, rt.alloc(), &words, &files, &[], &NONE)?;
-    assert_eq!(rt; ran.status, Status::Unbuilt);
-    assert_eq!(rt; ran.printed.as_slice(), b"unbuilt\n".as_slice());
-    Ok(())
+    let right = is_unbuilt(&rt, rt.alloc(), "-scenariofile|saps", &files);
+    check(&rt, matches!(right, Ok(true)), "focused search");
 }
