@@ -1,14 +1,14 @@
 //! What children answer: one table for all tunings, since each further one would compile the
 //! whole call again.
 ghost use Rattle.std.specs.Prelude.{◌≡◌, slice_index_or};
-ghost use Rattle.tuning_harness.specs.Rows;
+ghost use Rattle.tuning_harness.specs.Letters;
 
 use objective::{Micros, Outcome};
 use outside::{Key, Setting, Table};
 
 /// Whether the first setting has this value.
 fn has(settings: &[Setting], value: &str) -> bool
-    ensures { result ≡ Rows.has value.now settings.now }
+    ensures { result ≡ Letters.has value.now settings.now }
 {
     match settings {
         [] => false,
@@ -18,14 +18,14 @@ fn has(settings: &[Setting], value: &str) -> bool
 
 /// The letters of an instance with these specifics.
 fn letters_of(specifics: &str) -> &str
-    ensures { result.now ≡ Rows.letters_of specifics.now }
+    ensures { result.now ≡ Letters.letters_of specifics.now }
 {
     if specifics == "0" { "3429" } else { specifics }
 }
 
 /// Whether the first setting has the second value of a space, which is b or random.
 fn is_second(settings: &[Setting]) -> bool
-    ensures { result ≡ Rows.is_second settings.now }
+    ensures { result ≡ Letters.is_second settings.now }
 {
     has(settings, "b") || has(settings, "random")
 }
@@ -33,7 +33,7 @@ fn is_second(settings: &[Setting]) -> bool
 /// The column of a run: the first two letters are of the first seed and of the others, and
 /// so are the next two, where the first setting has the second value.
 fn column_of(key: &Key) -> usize
-    ensures { result ≡ Rows.column_of key.now }
+    ensures { result ≡ Letters.column_of key.now }
 {
     let others = if key.seed == 1 { 0 } else { 1 };
     if is_second(key.settings.as_slice()) {
@@ -46,7 +46,7 @@ fn column_of(key: &Key) -> usize
 /// The outcome that a letter stands for: a digit for that many seconds, `q` for 1.25 and `h`
 /// for 1.5, `u` for no solution, `c` for a crash and `x` for an abort after a second.
 fn outcome_of(letter: u8) -> Outcome
-    ensures { result ≡ Rows.outcome_of letter }
+    ensures { result ≡ Letters.outcome_of letter }
 {
     match letter {
         b'u' => Outcome::Unsolved,
@@ -76,7 +76,7 @@ fn letter_in(letters: &str, column: usize) -> u8
 pub struct Rows;
 
 impl Table for Rows {
-    ghost use Rattle.tuning_harness.specs.Rows.{outcome_at};
+    ghost use Rattle.tuning_harness.specs.Letters.{outcome_at};
 
     ghost outcome = { outcome_at };
 

@@ -139,10 +139,8 @@ fn have_text(alloc: Global, pairs: &Pairs, text: &str) -> Result<bool, Memory> {
 
 /// Whether the pairs have this text, and those of a copy.
 fn is_text_of(alloc: Global, pairs: &Pairs, text: &str) -> Result<bool, Memory> {
-    match &pairs.copy() {
-        Ok(copied) => Ok(have_text(alloc, pairs, text)? && have_text(alloc, copied, text)?),
-        Err(_) => Ok(false),
-    }
+    let copied = pairs.copy()?;
+    Ok(have_text(alloc, pairs, text)? && have_text(alloc, &copied, text)?)
 }
 
 /// The pairs over a file's instances with the seed 42.

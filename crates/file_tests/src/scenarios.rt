@@ -318,17 +318,17 @@ fn fills(alloc: Global, file: Draft, words: Draft) -> bool {
 }
 
 /// Whether a scenario of SMALL is filled by these words.
-fn fills_small(alloc: Global, words: &[Text]) -> bool {
-    let file = read_scenario(alloc, SMALL.as_bytes());
-    match (file, read_words(alloc, words)) {
-        (Ok(file), Ok(read)) => fills(alloc, file, read.draft),
-        _ => false,
+fn fills_small(alloc: Global, words: &[Text]) -> Result<bool, ScenarioFault> {
+    let file = read_scenario(alloc, SMALL.as_bytes())?;
+    match read_words(alloc, words) {
+        Ok(read) => Ok(fills(alloc, file, read.draft)),
+        Err(_) => Ok(false),
     }
 }
 
-fn is_filled_by(alloc: Global, words: &str) -> Result<bool, Memory> {
+fn is_filled_by(alloc: Global, words: &str) -> Result<bool, ScenarioFault> {
     let words = words_between(alloc, words)?;
-    Ok(fills_small(alloc, words.as_slice()))
+    fills_small(alloc, words.as_slice())
 }
 
 #[test]
@@ -347,10 +347,10 @@ fn fault_filled(
     file: &str,
     over: &str,
 ) -> Result<Option<ScenarioFault>, ScenarioFault> {
-    let file = read_scenario(alloc, file.as_bytes());
-    match (file, read_scenario(alloc, over.as_bytes())) {
-        (Ok(file), Ok(over)) => Ok(fill(alloc, file, over).err()),
-        (Err(fault), _) | (_, Err(fault)) => Err(fault),
+    let file = read_scenario(alloc, file.as_bytes())?;
+    match read_scenario(alloc, over.as_bytes()) {
+        Ok(over) => Ok(fill(alloc, file, over).err()),
+        Err(fault) => Err(fault),
     }
 }
 

@@ -1,0 +1,12 @@
+//! Assertions for the rows of a table.
+use std::process::Abort;
+
+/// Ends the test where the row of this text isn't right.
+pub(crate) fn check(rt: &impl Abort, right: bool, row: &str) {
+    assert!(rt; right, "{row:?}");
+}
+
+/// Ends the test where the row of these bytes isn't right.
+pub(crate) fn check_bytes(rt: &impl Abort, right: bool, row: &[u8]) {
+    assert!(rt; right, "{row:?}");
+}
