@@ -6,7 +6,7 @@ use crate::checks::check;
 use objective::{Answer, Memory, Micros, Outcome};
 use outside::{
     Fault, Files, Key, MemoryFiles, MemorySink, Poll, Program, Run, Script, Setting, Sink, Spawner,
-    Table, TableSeat, answer_of, read_program, words_of,
+    Table, TableSeat, Unwritten, answer_of, read_program, words_of, write_whole,
 };
 use plain_text::{Items, Text};
 use std::alloc::Global;
@@ -133,6 +133,20 @@ fn files_keep_what_they_are_given(rt: HostRuntime) {
     check(&rt, matches!(are_kept(rt.alloc()), Ok(true)), "files");
 }
 
+/// Whether whole pieces are written until the third write, which fails.
+fn is_written_whole(sink: &mut MemorySink) -> bool {
+    let whole = write_whole(sink, b"one").is_ok() && write_whole(sink, b"two").is_ok();
+    whole
+        && write_whole(sink, b"x") == Err(Unwritten::Fault)
+        && sink.bytes() == b"onetwo".as_slice()
+}
+
+fn is_whole(alloc: Global) -> Result<bool, Memory> {
+    let mut sink = MemorySink::new(alloc);
+    sink.fail_at(3)?;
+    Ok(is_written_whole(&mut sink))
+}
+
 /// Whether the second write fails, and the third takes nothing.
 fn is_written(sink: &mut MemorySink) -> bool {
     let first = sink.write(b"one") == Ok(3) && sink.write(b"x") == Err(Fault::Failed);
@@ -150,4 +164,9 @@ fn is_kept(alloc: Global) -> Result<bool, Memory> {
 #[test]
 fn sink_keeps_what_it_is_given(rt: HostRuntime) {
     check(&rt, matches!(is_kept(rt.alloc()), Ok(true)), "output");
+    check(
+        &rt,
+        matches!(is_whole(rt.alloc()), Ok(true)),
+        "whole pieces",
+    );
 }

@@ -1,8 +1,13 @@
-//! Worked times, tokens and lines.
+//! Worked times, tokens and lines, and each other call for texts once.
 use crate::checks::check;
 use objective::{Memory, Micros};
-use plain_text::{TimeFault, lines, read_micros, token_texts, tokens};
+use plain_text::{
+    Items, Text, TimeFault, after_prefix, after_word, all_digits, end_trimmed, first_word,
+    front_trimmed, has_text, lines, numbered_lines, parted, pieces, place_of, push_seconds,
+    read_count, read_micros, seconds_text, texts_differ, token_texts, tokens, trimmed, uncommented,
+};
 use std::alloc::Global;
+use test_support::words_between;
 
 #[test]
 fn reads_worked_times(rt: HostRuntime) {
@@ -128,6 +133,21 @@ fn has_lines(text: &str, places: &[Place]) -> bool {
     found.next().is_none()
 }
 
+/// Whether the bytes at these places of a short text are its lines.
+fn has_numbered(text: &[u8], places: &[Place]) -> bool {
+    if text.len() > 100 {
+        return false;
+    }
+    let mut found = numbered_lines(text);
+    for (number, start, end) in places {
+        match found.next() {
+            Some(line) if line.number == *number && text.get(*start..*end) == Some(line.bytes) => {}
+            _ => return false,
+        }
+    }
+    found.next().is_none()
+}
+
 #[test]
 fn finds_worked_lines(rt: HostRuntime) {
     for (text, places) in &[
@@ -142,5 +162,58 @@ fn finds_worked_lines(rt: HostRuntime) {
         ),
     ] {
         check(&rt, has_lines(text, places), text);
+        check(&rt, has_numbered(text.as_bytes(), places), text);
     }
+}
+
+#[test]
+fn cuts_texts(rt: HostRuntime) {
+    for (name, right) in &[
+        ("without front", front_trimmed(" \ta b ") == "a b "),
+        ("without end", end_trimmed(" a b \t") == " a b"),
+        ("without ends", trimmed("\t a b ") == "a b"),
+        ("first word", first_word("a b c") == "a"),
+        ("after the first word", after_word("a b c") == " b c"),
+        ("before a comment", uncommented("a # b # c") == "a "),
+        ("after a prefix", after_prefix("-key", "-") == Some("key")),
+        ("two parts", parted("a=b=c", '=') == Some(("a", "b=c"))),
+        ("a count", read_count(b"0120") == Some(120)),
+        ("digits", all_digits(b"0120") && !all_digits(b"1.5")),
+    ] {
+        check(&rt, *right, name);
+    }
+}
+
+/// Whether b is among these texts, c is the third, and they differ.
+fn are_listed(alloc: Global, texts: &[Text]) -> Result<bool, Memory> {
+    let placed = has_text(texts, "b") && place_of(texts, "c") == 2;
+    Ok(placed && texts_differ(alloc, texts)?)
+}
+
+/// Whether the copied words of a text are found.
+fn are_copied(alloc: Global) -> Result<bool, Memory> {
+    let texts = Items::new(words_between(alloc, "a|b|c")?);
+    let copy = texts.copy()?;
+    are_listed(alloc, copy.as_slice())
+}
+
+fn are_seconds(alloc: Global) -> Result<bool, Memory> {
+    let mut out = seconds_text(alloc, 1_250_000)?
+        .as_str()
+        .as_bytes()
+        .to_vec(alloc)?;
+    push_seconds(&mut out, 7)?;
+    Ok(out.as_slice() == b"1.2500000.000007".as_slice())
+}
+
+fn are_pieces(alloc: Global) -> Result<bool, Memory> {
+    let found = pieces(alloc, "a,,b", ',')?;
+    Ok(found.as_slice() == ["a", "", "b"].as_slice())
+}
+
+#[test]
+fn lists_texts(rt: HostRuntime) {
+    check(&rt, matches!(are_copied(rt.alloc()), Ok(true)), "a|b|c");
+    check(&rt, matches!(are_seconds(rt.alloc()), Ok(true)), "seconds");
+    check(&rt, matches!(are_pieces(rt.alloc()), Ok(true)), "pieces");
 }

@@ -163,7 +163,22 @@ fn tuned<R: Wait>(
     tune(rt, alloc, words, files, out, &mut log, seats)
 }
 
-/// What a tuning by these words, parted by bars, over this folder and two seats comes to.
+/// What a tuning by these words over this folder, this output and two seats comes to.
+fn ran_over<R: Wait>(
+    rt: &R,
+    alloc: Global,
+    words: &[Text],
+    folder: &mut MemoryFiles,
+    out: &mut MemorySink,
+    faults: &Faults,
+) -> Result<Tuning, Memory> {
+    let mut seats = [seat(alloc, faults)?, seat(alloc, faults)?];
+    let status = tuned(rt, alloc, words, folder, out, &mut seats);
+    let (first, second) = (seats[0].spawner(), seats[1].spawner());
+    outcome(alloc, status, out.bytes(), first, second)
+}
+
+/// What a tuning by these words over this folder and two seats comes to.
 fn ran_in<R: Wait>(
     rt: &R,
     alloc: Global,
@@ -171,22 +186,14 @@ fn ran_in<R: Wait>(
     folder: &mut MemoryFiles,
     faults: &Faults,
 ) -> Result<Tuning, Memory> {
-    let words = words_between(alloc, words)?;
     folder.fail_at(faults.read)?;
+    let words = words_between(alloc, words)?;
     let mut out = sink(alloc, faults)?;
-    let mut seats = [seat(alloc, faults)?, seat(alloc, faults)?];
-    let status = tuned(rt, alloc, words.as_slice(), folder, &mut out, &mut seats);
-    outcome(
-        alloc,
-        status,
-        out.bytes(),
-        seats[0].spawner(),
-        seats[1].spawner(),
-    )
+    ran_over(rt, alloc, words.as_slice(), folder, &mut out, faults)
 }
 
-/// What a tuning by these words, parted by bars, over two seats and the usual files comes to, in the place of
-/// which these stand, where they have their names.
+/// What a tuning by these words, parted by bars, comes to over two seats and the usual files;
+/// these files stand in the place of those of their names.
 pub fn ran<R: Wait>(
     rt: &R,
     alloc: Global,
@@ -200,7 +207,7 @@ pub fn ran<R: Wait>(
     ran_in(rt, alloc, words, &mut folder, faults)
 }
 
-/// What a tuning by these words, parted by bars, over two seats and these files alone comes to.
+/// What a tuning by these words, parted by bars, comes to over two seats and these files alone.
 pub fn ran_alone<R: Wait>(
     rt: &R,
     alloc: Global,
@@ -212,7 +219,8 @@ pub fn ran_alone<R: Wait>(
     ran_in(rt, alloc, words, &mut folder, &NONE)
 }
 
-/// Whether a tuning by these words, parted by bars, over the usual files and no seat ends so, and prints this.
+/// Whether a tuning by these words, parted by bars, over the usual files and no seat ends so,
+/// and prints this.
 pub fn is_unseated<R: Wait>(
     rt: &R,
     alloc: Global,

@@ -9,6 +9,18 @@ use std::sync::Wait;
 use tuner::Status;
 use tuning_harness::{NONE, SCENARIO, Tuning, ran};
 
+/// A tuning by these words of this scenario over these instances.
+fn searched_over<'a, R: Wait>(
+    rt: &R,
+    alloc: Global,
+    words: &str,
+    scenario: &'a str,
+    instances: &'a str,
+) -> Result<Tuning, Memory> {
+    let files = [("s", scenario.as_bytes()), ("i", instances.as_bytes())];
+    ran(rt, alloc, words, &files, &NONE)
+}
+
 /// A tuning over children with these answers, of this scenario and with this budget.
 fn searched<R: Wait>(
     rt: &R,
@@ -19,11 +31,7 @@ fn searched<R: Wait>(
 ) -> Result<Tuning, Memory> {
     let words = format!(in alloc; "-scenariofile|s|-maxComparisons|{budget}")?;
     let instances = format!(in alloc; "one {answers}\n")?;
-    let files = [
-        ("s", scenario.as_bytes()),
-        ("i", instances.as_str().as_bytes()),
-    ];
-    ran(rt, alloc, words.as_str(), &files, &NONE)
+    searched_over(rt, alloc, words.as_str(), scenario, instances.as_str())
 }
 
 /// Whether a tuning is Ok with these entries and this last line, and started two children for
