@@ -13,7 +13,7 @@ use Rattle.param_files.specs.declared.faults.ParamWhat.{ParamWhat}
 use Rattle.param_files.specs.declared.statements.Statement.{Statement}
 use Rattle.param_files.specs.declared.statements.Statement.TheVariants.{Nothing, Parameter, Condition, Clause}
 use Rattle.param_files.specs.Reading.{unless, params_in, numbered_param, is_condition, is_clause, statement_fault, statement_check, line_stated, with_line}
-use Rattle.param_files.specs.KeptStatements.{Kept, is_relation, kept_of, kept_and, kept_with, kept_line, kept_lines}
+use Rattle.param_files.specs.KeptStatements.{SpaceDraft, is_relation, kept_of, kept_and, kept_with, kept_line, kept_lines}
 
 params_in-append : (xs ys : List Statement) → params_in (xs ++ ys) ≡ params_in xs ++ params_in ys
 unfolding params_in
@@ -24,7 +24,7 @@ params_in-append (Condition child parent values ∷ xs) ys = params_in-append xs
 params_in-append (Clause picks ∷ xs) ys = params_in-append xs ys
 
 -- the parts of what is kept
-abbrev parts : List Param → List (ℕ × Statement) → List Statement → List Statement → Kept
+abbrev parts : List Param → List (ℕ × Statement) → List Statement → List Statement → SpaceDraft
 parts ps rs cs fs = record { params = ps; relations = rs; conditions = length cs; clauses = length fs }
 
 -- a statement after others, in the list that it belongs to
@@ -50,7 +50,7 @@ kept_of-push stated line s =
     ∙ joined (params_in ss) (filter (λ x. is_relation x.1) stated) (filter is_condition ss) (filter is_clause ss) line s
 
 -- what is kept of a reading of statements
-abbrev kept_reading : Result (List (ℕ × Statement)) (LineFault ParamWhat) → Result Kept (LineFault ParamWhat)
+abbrev kept_reading : Result (List (ℕ × Statement)) (LineFault ParamWhat) → Result SpaceDraft (LineFault ParamWhat)
 kept_reading (Ok stated) = Ok (kept_of stated)
 kept_reading (Err fault) = Err fault
 
@@ -71,7 +71,7 @@ kept_fold earlier ((number, line) ∷ later) = by (line_stated line) (λ s. ap (
     by (Ok s) same = at s (statement_fault (map (λ x. x.1) earlier) s) (same s)
 
 -- the statements of which something is kept
-pub kept_stated : (text : List ℕ) (kept : Kept) → kept_lines text ≡ Ok kept → (stated : List (ℕ × Statement)) × (fold_lines with_line [] (numbered_lines text) ≡ Ok stated) × (kept ≡ kept_of stated)
+pub kept_stated : (text : List ℕ) (kept : SpaceDraft) → kept_lines text ≡ Ok kept → (stated : List (ℕ × Statement)) × (fold_lines with_line [] (numbered_lines text) ≡ Ok stated) × (kept ≡ kept_of stated)
 kept_stated text kept h = by (fold_lines with_line [] (numbered_lines text)) refl (sym (kept_fold [] (numbered_lines text)) ∙ h)
   where
     by : (r : Result (List (ℕ × Statement)) (LineFault ParamWhat)) → fold_lines with_line [] (numbered_lines text) ≡ r → kept_reading r ≡ Ok kept → (stated : List (ℕ × Statement)) × (fold_lines with_line [] (numbered_lines text) ≡ Ok stated) × (kept ≡ kept_of stated)

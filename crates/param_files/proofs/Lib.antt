@@ -18,6 +18,7 @@ mod SoundParams
 mod SoundRelations
 mod SpaceNumbers
 mod SpaceRules
+mod StatedLines
 mod StatementForms
 mod TextNumbers
 mod Wholes

@@ -16,8 +16,8 @@ use Rattle.param_files.specs.declared.statements.NamedPick.{NamedPick}
 use Rattle.param_files.specs.declared.statements.Statement.{Statement}
 use Rattle.param_files.specs.declared.statements.Statement.TheVariants.{Parameter, Condition, Clause}
 use Rattle.param_files.specs.PrintedLines.{with_commas, name_of, value_of, param_line, condition_line, pick_text, clause_line}
-use Rattle.param_files.specs.StatementTokens.{parted_values, parted_picks, statement_tokens}
-use Rattle.param_files.proofs.WrittenStatements.{are_values, are_picks, is_form, is_pick_of_words, all_words, all_picks}
+use Rattle.param_files.specs.StatementTokens.{parted_values, parted_picks, statement_tokens, are_values, are_picks, is_form, is_pick_of_words}
+use Rattle.param_files.proofs.WrittenStatements.{all_words, all_picks}
 
 -- a parameter by its texts
 abbrev pub param_stated : Param → Statement

@@ -13,7 +13,8 @@ use Rattle.param_space.specs.declared.lists.Condition as condition
 use Rattle.param_space.specs.declared.lists.Pick.{Pick}
 use Rattle.param_space.specs.declared.lists.Forbidden.{Forbidden}
 use Rattle.param_files.specs.PrintedLines.{with_commas, name_of, value_of, param_line, condition_line, pick_text, clause_line}
-use Rattle.param_files.proofs.WrittenStatements.{are_values, is_form, is_pick_of_words, all_words, all_picks}
+use Rattle.param_files.specs.StatementTokens.{are_values, is_form, is_pick_of_words}
+use Rattle.param_files.proofs.WrittenStatements.{all_words, all_picks}
 use Rattle.param_files.proofs.LineTokens.{param_stated, condition_stated, pick_stated, clause_stated}
 
 -- no line feed and no carriage return

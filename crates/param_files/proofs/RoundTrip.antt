@@ -21,8 +21,8 @@ use Rattle.param_space.proofs.RuleLemmas.{All-faultless}
 use Rattle.param_files.specs.declared.statements.Statement.{Statement}
 use Rattle.param_files.specs.Reading.{params_in, line_stated, with_line, lists_of, breach_fault, without_fault, some_params, space_stated, params_read}
 use Rattle.param_files.specs.PrintedLines.{param_line, condition_line, clause_line, space_lines, space_text}
-use Rattle.param_files.specs.StatementTokens.{statement_tokens}
-use Rattle.param_files.proofs.WrittenStatements.{is_form, statement_of-written}
+use Rattle.param_files.specs.StatementTokens.{statement_tokens, is_form}
+use Rattle.param_files.proofs.WrittenStatements.{statement_of-written}
 use Rattle.param_files.proofs.LineTokens.{param_stated, condition_stated, clause_stated, all_stated, param_tokens, condition_tokens, clause_tokens}
 use Rattle.param_files.proofs.PlainLines.{param_fits, condition_fits, clause_fits}
 use Rattle.param_files.proofs.OwnPlaces.{bytes_eq-sym, place_of}

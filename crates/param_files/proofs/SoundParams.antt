@@ -16,7 +16,7 @@ use Rattle.plain_text.specs.Texts.{texts_differ}
 use Rattle.param_space.specs.Faults.{param_fault, later_params_fault, param_rules}
 use Rattle.param_space.proofs.RuleLemmas.{rules_hold, none_here}
 use Rattle.param_files.specs.PrintedLines.{name_of, value_of}
-use Rattle.param_files.proofs.WrittenStatements.{are_values, is_form}
+use Rattle.param_files.specs.StatementTokens.{are_values, is_form}
 use Rattle.param_files.proofs.LineTokens.{param_stated}
 
 -- ---- parameters

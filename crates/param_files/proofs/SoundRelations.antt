@@ -16,7 +16,7 @@ use Rattle.plain_text.specs.Texts.{texts_differ}
 use Rattle.param_space.specs.Faults.{numbers_differ, condition_fault, clause_fault, condition_rules, clause_rules}
 use Rattle.param_space.proofs.RuleLemmas.{rules_hold}
 use Rattle.param_files.specs.PrintedLines.{name_of, value_of}
-use Rattle.param_files.proofs.WrittenStatements.{are_values, is_form, is_pick_of_words}
+use Rattle.param_files.specs.StatementTokens.{are_values, is_form, is_pick_of_words}
 use Rattle.param_files.proofs.LineTokens.{condition_stated, pick_stated, clause_stated}
 use Rattle.param_files.proofs.OwnPlaces.{places_differ, texts_of_numbers}
 use Rattle.param_files.proofs.SoundParams.{IsSoundParam, name_word, values_at, length-values_at, values_apart, value_word}

@@ -14,7 +14,7 @@ use Rattle.param_space.specs.Space.{names, value_count}
 use Rattle.plain_text.specs.Texts.{texts_differ}
 use Rattle.param_files.specs.declared.statements.Statement.{Statement}
 use Rattle.param_files.specs.PrintedLines.{name_of, value_of}
-use Rattle.param_files.specs.Reading.{before, all_some, param_number, value_number, condition_numbered, pick_numbered, clause_numbered, Numbered, with_condition, with_clause, all_numbered}
+use Rattle.param_files.specs.Reading.{before, all_some, param_number, value_number, condition_numbered, pick_numbered, clause_numbered, NumberedRelations, with_condition, with_clause, all_numbered}
 use Rattle.param_files.proofs.LineTokens.{param_stated, condition_stated, pick_stated, clause_stated}
 use Rattle.param_files.proofs.OwnPlaces.{number_of}
 use Rattle.param_files.proofs.SoundParams.{IsSoundParam, values_at, length-values_at, values_apart}
@@ -97,7 +97,7 @@ numbered_statements line (s ∷ later) = (line, s) ∷ numbered_statements (line
 
 -- these conditions and these clauses are read by numbers
 abbrev pub ReadsAs : List Param → List (ℕ × Statement) → List Condition → List Forbidden → Type 0
-ReadsAs params stated conditions clauses = (n : Numbered) × (all_numbered params stated ≡ Ok n) × (n.conditions ≡ conditions) × (n.clauses ≡ clauses)
+ReadsAs params stated conditions clauses = (n : NumberedRelations) × (all_numbered params stated ≡ Ok n) × (n.conditions ≡ conditions) × (n.clauses ≡ clauses)
 
 module _ (params : List Param) (sound : All IsSoundParam params) (apart : texts_differ (names params) ≡ true) where
   clauses_read : (line : ℕ) (clauses : List Forbidden) → All (IsSoundClause params) clauses → ReadsAs params (numbered_statements line (map (clause_stated params) clauses)) [] clauses

@@ -19,7 +19,8 @@ use Rattle.param_space.specs.declared.lists.Part.TheVariants as part
 use Rattle.param_space.specs.declared.lists.SpaceWhat.{SpaceWhat}
 use Rattle.param_space.specs.declared.lists.SpaceWhat.TheVariants.{UnknownName, UnknownValue}
 use Rattle.param_space.specs.Space.{value_count}
-use Rattle.param_space.specs.Faults.{first_broken, first_in, numbers_differ, param_rules, param_fault, later_params_fault, params_fault, condition_rules as space_condition_rules, condition_fault, clause_rules as space_clause_rules, clause_fault, whole_fault, space_fault, AreFaultless}
+use Rattle.param_space.specs.Faults
+use Rattle.param_space.specs.Faults.{first_broken, first_in, numbers_differ, param_rules, param_fault, later_params_fault, params_fault, condition_fault, clause_fault, whole_fault, space_fault, AreFaultless}
 use Rattle.plain_text.specs.Texts.{texts_differ}
 use Rattle.param_space.proofs.RuleLemmas.{rules_hold, none_broken, none_here}
 use Rattle.param_space.proofs.SpaceSizes.{few_params, few_values}
@@ -27,7 +28,7 @@ use Rattle.param_files.specs.declared.faults.ParamWhat.{ParamWhat}
 use Rattle.param_files.specs.declared.statements.NamedPick.{NamedPick}
 use Rattle.param_files.specs.declared.statements.Statement.{Statement}
 use Rattle.param_files.specs.declared.statements.Statement.TheVariants.{Nothing, Parameter, Condition, Clause}
-use Rattle.param_files.specs.Reading.{unless, of_space, numbered_param, params_in, is_condition, is_clause, parameter_rules, condition_rules, clause_rules, fault_after, statement_fault, statement_check, line_stated, all_some, param_number, value_number, condition_numbered, pick_of, pick_numbered, clause_numbered, Numbered, with_condition, with_clause, all_numbered, lists_of, some_params, with_line}
+use Rattle.param_files.specs.Reading.{unless, of_space, numbered_param, params_in, is_condition, is_clause, parameter_rules, condition_rules, clause_rules, fault_after, statement_fault, statement_check, line_stated, all_some, param_number, value_number, condition_numbered, pick_of, pick_numbered, clause_numbered, NumberedRelations, with_condition, with_clause, all_numbered, lists_of, some_params, with_line}
 use Rattle.param_files.specs.KeptStatements.{AreFew}
 use Rattle.param_files.proofs.StatementForms.{IsFormed, line_formed}
 use Rattle.param_files.proofs.TextNumbers.{length-all_some, list_all-all_some, map-all_some, values_apart, picks_apart, param_below, value_below}
@@ -201,7 +202,7 @@ condition_passes params child parent values c place good h room =
         let most : nat_lt place Limits.max_conditions ≡ true = grind (arith, nat_tests, room) in
         let first = good.0 in
         let some : nat_lt 0 (length vs) ≡ true = grind (arith, nat_tests, size, first) in
-        none_broken (space_condition_rules params place (record { child = i; parent = j; values = vs }))
+        none_broken (Faults.condition_rules params place (record { child = i; parent = j; values = vs }))
         (most, (some, (values_apart params j values vs read good.1, (and_from (nat_lt i (length params)) (nat_lt j (length params)) child_below parent_below, (list_all-all_some (value_number params j) (λ v. nat_lt v (value_count params j)) values vs (λ value n. value_below params j value n) read, tt)))))
 
     with_values : (i j : ℕ) (o : Option (List ℕ)) → nat_lt i (length params) ≡ true → nat_lt j (length params) ≡ true → all_some (value_number params j) values ≡ o
@@ -247,7 +248,7 @@ clause_passes params picks f place good h room = by (all_some (λ k. param_numbe
         let most : (nat_lt place Limits.max_clauses && nat_le (length numbers) Limits.max_picks) ≡ true = grind (arith, nat_tests, room, size, short) in
         let some : nat_lt 0 (length numbers) ≡ true = grind (arith, nat_tests, size, first) in
         let same : map (λ k. k.param) numbers ≡ ns = map-all_some (λ k. param_number params k.name) (pick_numbered params) (λ k. k.param) picks ns numbers (λ k n e. (pick_known params k n e).0) names read in
-        none_broken (space_clause_rules params place (record { picks = numbers })) (
+        none_broken (Faults.clause_rules params place (record { picks = numbers })) (
           most,
           (
             some,
@@ -271,7 +272,7 @@ clause_passes params picks f place good h room = by (all_some (λ k. param_numbe
     by (Some ns) names e = with_values ns (all_some (pick_numbered params) picks) names refl e
 
 -- conditions and clauses by numbers, from a place on each, break no rule of a space
-numbers_pass : (params : List Param) (stated : List (ℕ × Statement)) (numbered : Numbered) (m n : ℕ) → All (λ s. IsGood s.1) stated
+numbers_pass : (params : List Param) (stated : List (ℕ × Statement)) (numbered : NumberedRelations) (m n : ℕ) → All (λ s. IsGood s.1) stated
     → m + length (filter is_condition (map (λ s. s.1) stated)) ≤ Limits.max_conditions → n + length (filter is_clause (map (λ s. s.1) stated)) ≤ Limits.max_clauses → all_numbered params stated ≡ Ok numbered
     → (first_in part.Condition (condition_fault params) m numbered.conditions ≡ None) × (first_in part.Forbidden (clause_fault params) n numbered.clauses ≡ None)
 unfolding all_numbered
@@ -284,13 +285,13 @@ numbers_pass params ((line, Parameter name values default) ∷ later) numbered m
 numbers_pass params ((line, Condition child parent values) ∷ later) numbered m n good a b h =
     by (condition_numbered params child parent values) (all_numbered params later) refl (λ rest e. numbers_pass params later rest (m + 1) n (All-tail (λ s. IsGood s.1) (line, Condition child parent values) later good) (omega (arith, a)) b e) h
   where
-    Passes : Numbered → ℕ → Type 0
+    Passes : NumberedRelations → ℕ → Type 0
     Passes x k = (first_in part.Condition (condition_fault params) k x.conditions ≡ None) × (first_in part.Forbidden (clause_fault params) n x.clauses ≡ None)
 
-    same_ok : (x y : Numbered) → ◌≡◌ {A = Result Numbered (LineFault ParamWhat)} (Ok x) (Ok y) → x ≡ y
+    same_ok : (x y : NumberedRelations) → ◌≡◌ {A = Result NumberedRelations (LineFault ParamWhat)} (Ok x) (Ok y) → x ≡ y
     same_ok x y e = cc
 
-    by : (r : Result condition.Condition SpaceWhat) (q : Result Numbered (LineFault ParamWhat)) → condition_numbered params child parent values ≡ r → ((rest : Numbered) → q ≡ Ok rest → Passes rest (m + 1))
+    by : (r : Result condition.Condition SpaceWhat) (q : Result NumberedRelations (LineFault ParamWhat)) → condition_numbered params child parent values ≡ r → ((rest : NumberedRelations) → q ≡ Ok rest → Passes rest (m + 1))
         → (in_line line (of_space r) >>= λ c. q >>= λ x. Ok (with_condition line c x)) ≡ Ok numbered → Passes numbered m
     by (Err what) q is rest e = absurd (cc)
     by (Ok c) (Err fault) is rest e = absurd (cc)
@@ -301,13 +302,13 @@ numbers_pass params ((line, Condition child parent values) ∷ later) numbered m
 numbers_pass params ((line, Clause picks) ∷ later) numbered m n good a b h =
     by (clause_numbered params picks) (all_numbered params later) refl (λ rest e. numbers_pass params later rest m (n + 1) (All-tail (λ s. IsGood s.1) (line, Clause picks) later good) a (omega (arith, b)) e) h
   where
-    Passes : Numbered → ℕ → Type 0
+    Passes : NumberedRelations → ℕ → Type 0
     Passes x k = (first_in part.Condition (condition_fault params) m x.conditions ≡ None) × (first_in part.Forbidden (clause_fault params) k x.clauses ≡ None)
 
-    same_ok : (x y : Numbered) → ◌≡◌ {A = Result Numbered (LineFault ParamWhat)} (Ok x) (Ok y) → x ≡ y
+    same_ok : (x y : NumberedRelations) → ◌≡◌ {A = Result NumberedRelations (LineFault ParamWhat)} (Ok x) (Ok y) → x ≡ y
     same_ok x y e = cc
 
-    by : (r : Result Forbidden SpaceWhat) (q : Result Numbered (LineFault ParamWhat)) → clause_numbered params picks ≡ r → ((rest : Numbered) → q ≡ Ok rest → Passes rest (n + 1))
+    by : (r : Result Forbidden SpaceWhat) (q : Result NumberedRelations (LineFault ParamWhat)) → clause_numbered params picks ≡ r → ((rest : NumberedRelations) → q ≡ Ok rest → Passes rest (n + 1))
         → (in_line line (of_space r) >>= λ f. q >>= λ x. Ok (with_clause line f x)) ≡ Ok numbered → Passes numbered n
     by (Err what) q is rest e = absurd (cc)
     by (Ok f) (Err fault) is rest e = absurd (cc)
@@ -338,7 +339,7 @@ module _ (lines : List (ℕ × List ℕ)) (stated : List (ℕ × Statement)) (re
         by [] none e = absurd (cc)
         by (p ∷ ps) none e = subst (λ qs. params_fault qs ≡ None) (same_ok (p ∷ ps) params e) none
 
-    module _ (numbered : Numbered) (all : all_numbered params stated ≡ Ok numbered) where
+    module _ (numbered : NumberedRelations) (all : all_numbered params stated ≡ Ok numbered) where
       -- each of the lists by itself breaks no rule of a space
       pub lists_pass : AreFaultless (lists_of params numbered)
       lists_pass =

@@ -15,8 +15,8 @@ use Rattle.param_space.specs.Faults.{space_fault, whole_fault}
 use Rattle.param_files.specs.declared.faults.ParamWhat.{ParamWhat}
 use Rattle.param_files.specs.declared.statements.Statement.{Statement}
 use Rattle.param_files.specs.declared.statements.Statement.TheVariants.{Nothing, Parameter, Condition, Clause}
-use Rattle.param_files.specs.Reading.{of_space, space_fault_in, params_in, condition_numbered, clause_numbered, Numbered, with_condition, with_clause, all_numbered, lists_of, breach_fault, without_fault, some_params, with_line, space_stated, params_read}
-use Rattle.param_files.specs.KeptStatements.{Kept, is_relation, kept_of, kept_lines, AreFew}
+use Rattle.param_files.specs.Reading.{of_space, space_fault_in, params_in, condition_numbered, clause_numbered, NumberedRelations, with_condition, with_clause, all_numbered, lists_of, breach_fault, without_fault, some_params, with_line, space_stated, params_read}
+use Rattle.param_files.specs.KeptStatements.{SpaceDraft, is_relation, kept_of, kept_lines, AreFew}
 use Rattle.param_files.proofs.KeptLines.{kept_stated, kept_fault}
 use Rattle.param_files.proofs.SpaceRules.{lines_few, whole_left}
 
@@ -37,7 +37,7 @@ nonempty [] h = absurd (omega (arith, h))
 nonempty (p ∷ ps) h = refl
 
 -- the space of numbers
-abbrev numbers_space : List Param → Numbered → Result Lists (LineFault ParamWhat)
+abbrev numbers_space : List Param → NumberedRelations → Result Lists (LineFault ParamWhat)
 numbers_space params numbered = without_fault (option_map (λ b. breach_fault numbered b.part b.place b.what) (whole_fault (lists_of params numbered))) (lists_of params numbered)
 
 -- the space of parameters and of statements
@@ -54,7 +54,7 @@ pub lines_fault : (text : List ℕ) (o : Option (LineFault ParamWhat)) → lengt
 lines_fault text o short h =
     fault_moves o (kept_lines text) (params_read text) (λ f is. lines_decide text short ∙ ap (λ r. r >>= space_stated) (kept_fault text f is)) h
 
-module _ (text : List ℕ) (kept : Kept) (short : length text ≤ max_bytes) (read : kept_lines text ≡ Ok kept) where
+module _ (text : List ℕ) (kept : SpaceDraft) (short : length text ≤ max_bytes) (read : kept_lines text ≡ Ok kept) where
   stated : List (ℕ × Statement)
   stated = (kept_stated text kept read).0
 
@@ -95,7 +95,7 @@ module _ (text : List ℕ) (kept : Kept) (short : length text ≤ max_bytes) (re
     numbers_fault o h = fault_moves o (all_numbered kept.params kept.relations) (params_read text) (λ f is. from_numbers ∙ ap (λ r. r >>= numbers_space kept.params) is) h
 
     -- the space or the first rule that it breaks
-    pub space_found : (numbered : Numbered) → all_numbered kept.params kept.relations ≡ Ok numbered
+    pub space_found : (numbered : NumberedRelations) → all_numbered kept.params kept.relations ≡ Ok numbered
         → params_read text ≡ without_fault (option_map (λ b. breach_fault numbered b.part b.place b.what) (space_fault (lists_of kept.params numbered))) (lists_of kept.params numbered)
     space_found numbered all =
         from_numbers ∙ ap (λ r. r >>= numbers_space kept.params) all

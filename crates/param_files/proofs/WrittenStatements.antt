@@ -9,26 +9,7 @@ use Rattle.param_files.specs.declared.statements.NamedPick.{NamedPick}
 use Rattle.param_files.specs.declared.statements.Statement.{Statement}
 use Rattle.param_files.specs.declared.statements.Statement.TheVariants.{Nothing, Parameter, Condition, Clause}
 use Rattle.param_files.specs.Grammar.{value_list, pick_list, ended_clause, clause_of, condition_of, parameter_of, statement_of}
-use Rattle.param_files.specs.StatementTokens.{parted_values, parted_picks, statement_tokens}
-
--- one or more values, all of them words
-abbrev pub are_values : List (List ℕ) → Bool
-are_values values = nat_lt 0 (length values) && list_all is_word values
-
--- a pick of two words
-abbrev pub is_pick_of_words : NamedPick → Bool
-is_pick_of_words k = is_word k.name && is_word k.value
-
--- one or more picks of words
-abbrev pub are_picks : List NamedPick → Bool
-are_picks picks = nat_lt 0 (length picks) && list_all is_pick_of_words picks
-
--- names and values are words, and there are some
-abbrev pub is_form : Statement → Bool
-is_form Nothing = true
-is_form (Parameter name values default) = is_word name && (are_values values && is_word default)
-is_form (Condition child parent values) = is_word child && (is_word parent && are_values values)
-is_form (Clause picks) = are_picks picks
+use Rattle.param_files.specs.StatementTokens.{parted_values, parted_picks, statement_tokens, are_values, is_pick_of_words, are_picks, is_form}
 
 -- a word is none of the other texts
 unlike_word : (w t : List ℕ) → is_word w ≡ true → is_word t ≡ false → bytes_eq w t ≡ false

@@ -10,8 +10,8 @@ use Rattle.param_files.specs.declared.statements.NamedPick.{NamedPick}
 use Rattle.param_files.specs.declared.statements.Statement.{Statement}
 use Rattle.param_files.specs.declared.statements.Statement.TheVariants.{Nothing, Parameter, Condition, Clause}
 use Rattle.param_files.specs.Grammar.{is_nothing, value_list, is_pick, pick_list, ended_clause, clause_of, is_condition_head, ended_condition, condition_of, is_default, default_of, listed_parameter, parameter_of, or_form, statement_of}
-use Rattle.param_files.specs.StatementTokens.{parted_values, parted_picks, statement_tokens}
-use Rattle.param_files.proofs.WrittenStatements.{are_values, are_picks, is_form, is_pick_of_words, all_words, all_picks}
+use Rattle.param_files.specs.StatementTokens.{parted_values, parted_picks, statement_tokens, are_values, are_picks, is_form, is_pick_of_words}
+use Rattle.param_files.proofs.WrittenStatements.{all_words, all_picks}
 
 -- two texts that a test takes as equal are one
 same_text : (x y : List ℕ) → bytes_eq x y ≡ true → x ≡ y

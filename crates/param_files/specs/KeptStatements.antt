@@ -11,10 +11,10 @@ use Rattle.param_space.specs.declared.lists.SpaceWhat.{SpaceWhat}
 use Rattle.param_files.specs.declared.faults.ParamWhat.{ParamWhat}
 use Rattle.param_files.specs.declared.statements.Statement.{Statement}
 use Rattle.param_files.specs.declared.statements.Statement.TheVariants.{Nothing, Parameter, Condition, Clause}
-use Rattle.param_files.specs.Reading.{unless, of_space, numbered_param, params_in, is_condition, is_clause, fault_after, line_stated, condition_numbered, clause_numbered, Numbered}
+use Rattle.param_files.specs.Reading.{unless, of_space, numbered_param, params_in, is_condition, is_clause, fault_after, line_stated, condition_numbered, clause_numbered, NumberedRelations}
 
 -- parameters, conditions and clauses with their lines, and how many of each
-pub record Kept : Type 0 where
+pub record SpaceDraft : Type 0 where
   pub params : List Param
   pub relations : List (ℕ × Statement)
   pub conditions : ℕ
@@ -25,7 +25,7 @@ abbrev pub is_relation : Statement → Bool
 is_relation s = is_condition s || is_clause s
 
 -- what is kept of statements with their lines
-unfoldable pub kept_of : List (ℕ × Statement) → Kept
+unfoldable pub kept_of : List (ℕ × Statement) → SpaceDraft
 kept_of stated = record {
   params = params_in (map (λ s. s.1) stated);
   relations = filter (λ s. is_relation s.1) stated;
@@ -33,27 +33,27 @@ kept_of stated = record {
   clauses = length (filter is_clause (map (λ s. s.1) stated));
 }
 
--- the same and one more statement
-abbrev pub kept_and : Kept → ℕ → Statement → Kept
+-- what is kept, after one more statement
+abbrev pub kept_and : SpaceDraft → ℕ → Statement → SpaceDraft
 kept_and kept line Nothing = kept
 kept_and kept line (Parameter name values default) = record kept { params = kept.params ++ numbered_param name values default ∷ [] }
 kept_and kept line (Condition child parent values) = record kept { relations = kept.relations ++ (line, Condition child parent values) ∷ []; conditions = kept.conditions + 1 }
 kept_and kept line (Clause picks) = record kept { relations = kept.relations ++ (line, Clause picks) ∷ []; clauses = kept.clauses + 1 }
 
 -- the first rule of a line that a statement breaks
-abbrev pub fault_in : Kept → Statement → Option SpaceWhat
+abbrev pub fault_in : SpaceDraft → Statement → Option SpaceWhat
 fault_in kept s = fault_after kept.params kept.conditions kept.clauses s
 
--- the same and one more statement, where that keeps the rules of a line
-abbrev pub kept_with : Kept → ℕ → Statement → Result Kept ParamWhat
+-- what is kept after one more statement, where that keeps the rules of a line
+abbrev pub kept_with : SpaceDraft → ℕ → Statement → Result SpaceDraft ParamWhat
 kept_with kept line s = unless (fault_in kept s) (kept_and kept line s)
 
--- the same and what one more line states
-abbrev pub kept_line : Kept → ℕ → List ℕ → Result Kept ParamWhat
+-- what is kept after one more line
+abbrev pub kept_line : SpaceDraft → ℕ → List ℕ → Result SpaceDraft ParamWhat
 kept_line kept number line = line_stated line >>= kept_with kept number
 
 -- what is kept of a text's lines, or the first fault
-abbrev pub kept_lines : List ℕ → Result Kept (LineFault ParamWhat)
+abbrev pub kept_lines : List ℕ → Result SpaceDraft (LineFault ParamWhat)
 kept_lines text = fold_lines kept_line (kept_of []) (numbered_lines text)
 
 -- ---- names and values as numbers
@@ -64,11 +64,11 @@ pub record AreFew (params : List Param) : Type 0 where
   pub values : All (λ p. length p.values ≤ Limits.max_values) params
 
 -- no conditions and no clauses
-abbrev pub none_numbered : Numbered
+abbrev pub none_numbered : NumberedRelations
 none_numbered = record { conditions = []; condition_lines = []; clauses = []; clause_lines = [] }
 
 -- conditions and clauses by numbers, and those of one more statement
-unfoldable pub numbered_with : List Param → Numbered → ℕ → Statement → Result Numbered (LineFault ParamWhat)
+unfoldable pub numbered_with : List Param → NumberedRelations → ℕ → Statement → Result NumberedRelations (LineFault ParamWhat)
 numbered_with params n line Nothing = Ok n
 numbered_with params n line (Parameter name values default) = Ok n
 numbered_with params n line (Condition child parent values) =

@@ -165,22 +165,22 @@ clause_numbered params picks =
     Ok (record { picks = numbers })
 
 -- conditions and clauses by numbers, and their lines
-pub record Numbered : Type 0 where
+pub record NumberedRelations : Type 0 where
   pub conditions : List condition.Condition
   pub condition_lines : List ℕ
   pub clauses : List Forbidden
   pub clause_lines : List ℕ
 
 -- a condition in a line before others
-abbrev pub with_condition : ℕ → condition.Condition → Numbered → Numbered
+abbrev pub with_condition : ℕ → condition.Condition → NumberedRelations → NumberedRelations
 with_condition line c later = record later { conditions = c ∷ later.conditions; condition_lines = line ∷ later.condition_lines }
 
 -- a clause in a line before others
-abbrev pub with_clause : ℕ → Forbidden → Numbered → Numbered
+abbrev pub with_clause : ℕ → Forbidden → NumberedRelations → NumberedRelations
 with_clause line f later = record later { clauses = f ∷ later.clauses; clause_lines = line ∷ later.clause_lines }
 
 -- the conditions and the clauses of statements by numbers, or the first fault
-unfoldable pub all_numbered : List Param → List (ℕ × Statement) → Result Numbered (LineFault ParamWhat)
+unfoldable pub all_numbered : List Param → List (ℕ × Statement) → Result NumberedRelations (LineFault ParamWhat)
 all_numbered params [] = Ok (record { conditions = []; condition_lines = []; clauses = []; clause_lines = [] })
 all_numbered params ((line, Nothing) ∷ later) = all_numbered params later
 all_numbered params ((line, Parameter name values default) ∷ later) = all_numbered params later
@@ -196,7 +196,7 @@ all_numbered params ((line, Clause picks) ∷ later) =
 -- ---- the file
 
 -- the lists of parameters and of what is said of them by numbers
-abbrev pub lists_of : List Param → Numbered → Lists
+abbrev pub lists_of : List Param → NumberedRelations → Lists
 lists_of params numbered = space_lists params numbered.conditions numbered.clauses
 
 -- the line of an element of the lists, where these are the lines of the conditions and of the clauses; 0 for one of another list
@@ -207,7 +207,7 @@ line_of condition_lines clause_lines part.Forbidden place = slice_index clause_l
 line_of condition_lines clause_lines part.Whole place = 0
 
 -- a breach of these lists, by its parts, with its line
-abbrev pub breach_fault : Numbered → Part → ℕ → SpaceWhat → LineFault ParamWhat
+abbrev pub breach_fault : NumberedRelations → Part → ℕ → SpaceWhat → LineFault ParamWhat
 breach_fault numbered part place what = space_fault_in (line_of numbered.condition_lines numbered.clause_lines part place) what
 
 -- the value, or else the fault that there is, with its line

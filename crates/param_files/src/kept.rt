@@ -15,28 +15,28 @@ use std::marker::Model;
 
 /// The parameters, the conditions and clauses with their lines, and how many of each.
 #[derive(Drop)]
-pub(crate) struct Kept {
+pub(crate) struct SpaceDraft {
     pub params: Vec<Param>,
     pub relations: Vec<(u32, Statement)>,
     conditions: usize,
     clauses: usize,
 }
 
-impl Model for Kept {
+impl Model for SpaceDraft {
     ghost use Rattle.param_files.specs.KeptStatements;
 
-    ghost Value = { KeptStatements.Kept };
+    ghost Value = { KeptStatements.SpaceDraft };
 
     ghost view = { λ k. record { params = k.params.items; relations = k.relations.items; conditions = k.conditions; clauses = k.clauses } };
 }
 
-impl Kept {
+impl SpaceDraft {
     /// Nothing is kept yet. Takes no memory.
     #[tactic(auto, unfolding(crate::specs::KeptStatements::kept_of, crate::specs::Reading::params_in))]
-    pub fn new(alloc: Global) -> Kept
+    pub fn new(alloc: Global) -> SpaceDraft
         ensures { result ≡ kept_of [] }
     {
-        Kept {
+        SpaceDraft {
             params: Vec::new(alloc),
             relations: Vec::new(alloc),
             conditions: 0,

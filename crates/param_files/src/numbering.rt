@@ -15,27 +15,27 @@ use std::marker::Model;
 
 /// Conditions and clauses by numbers, and their lines.
 #[derive(Drop)]
-pub(crate) struct Numbered {
+pub(crate) struct NumberedRelations {
     pub conditions: Vec<Condition>,
     pub condition_lines: Vec<u32>,
     pub clauses: Vec<Forbidden>,
     pub clause_lines: Vec<u32>,
 }
 
-impl Model for Numbered {
+impl Model for NumberedRelations {
     ghost use Rattle.param_files.specs.Reading;
 
-    ghost Value = { Reading.Numbered };
+    ghost Value = { Reading.NumberedRelations };
 
     ghost view = { λ n. record { conditions = n.conditions.items; condition_lines = n.condition_lines.items; clauses = n.clauses.items; clause_lines = n.clause_lines.items } };
 }
 
-impl Numbered {
+impl NumberedRelations {
     /// None yet. Takes no memory.
-    fn new(alloc: Global) -> Numbered
+    fn new(alloc: Global) -> NumberedRelations
         ensures { result ≡ none_numbered }
     {
-        Numbered {
+        NumberedRelations {
             conditions: Vec::new(alloc),
             condition_lines: Vec::new(alloc),
             clauses: Vec::new(alloc),
@@ -114,12 +114,12 @@ pub(crate) fn all_by_numbers(
     alloc: Global,
     params: &[Param],
     relations: &[(u32, Statement)],
-) -> Result<Numbered, ParamFault>
+) -> Result<NumberedRelations, ParamFault>
     requires { AreFew params.now }
     ensures value { IfOk result (λ n. all_numbered params.now relations.now ≡ Ok n) }
     ensures fault { IfErr result (λ e. IsFound (fault_of e) (all_numbered params.now relations.now)) }
 {
-    let mut numbers = Numbered::new(alloc);
+    let mut numbers = NumberedRelations::new(alloc);
     for (line, statement) in relations {
         numbers.add(alloc, params, *line, statement)?;
     }

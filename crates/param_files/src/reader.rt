@@ -5,11 +5,12 @@ ghost use Rattle.param_space.specs.Faults.{space_fault};
 ghost use Rattle.param_files.specs.Faults.{fault_of};
 ghost use Rattle.param_files.specs.Reading.{line_stated, lists_of, breach_fault, without_fault, params_read};
 ghost use Rattle.param_files.specs.KeptStatements.{kept_line, kept_lines};
+ghost use Rattle.param_files.specs.StatementTokens.{AreStatements, IsFormless};
 
 use crate::faults::{ParamFault, ParamWhat, broken};
 use crate::forms::statement_of;
-use crate::kept::Kept;
-use crate::numbering::{Numbered, all_by_numbers, line_of};
+use crate::kept::SpaceDraft;
+use crate::numbering::{NumberedRelations, all_by_numbers, line_of};
 use crate::statements::Statement;
 use param_space::{Param, Space, SpaceFault, SpaceWhat};
 use plain_text::{MAX_BYTES, numbered_lines, token_texts};
@@ -38,7 +39,7 @@ fn statement_in(alloc: Global, line: u32, bytes: &[u8]) -> Result<Statement, Par
     }
 }
 
-impl Kept {
+impl SpaceDraft {
     /// Keeps what the line with this number states. Fails with the first rule that it breaks.
     fn add_line(&mut self, alloc: Global, number: u32, bytes: &[u8]) -> Result<(), ParamFault>
         ensures value { OnOk result (kept_line self.old number bytes.now ≡ Ok self.new) }
@@ -50,12 +51,12 @@ impl Kept {
 }
 
 /// What is kept of a text's lines. Fails with the first fault of a line.
-fn read_lines(alloc: Global, text: &[u8]) -> Result<Kept, ParamFault>
+fn read_lines(alloc: Global, text: &[u8]) -> Result<SpaceDraft, ParamFault>
     requires { length text.now < 2 ^ 32 }
     ensures value { IfOk result (λ k. kept_lines text.now ≡ Ok k) }
     ensures fault { IfErr result (λ e. IsFound (fault_of e) (kept_lines text.now)) }
 {
-    let mut kept = Kept::new(alloc);
+    let mut kept = SpaceDraft::new(alloc);
     for line in numbered_lines(text) {
         kept.add_line(alloc, line.number, line.bytes)?;
     }
@@ -64,11 +65,11 @@ fn read_lines(alloc: Global, text: &[u8]) -> Result<Kept, ParamFault>
 
 /// The space of these lists. Fails with the first rule of a space that they break, in its
 /// line.
-fn space_of(alloc: Global, params: Vec<Param>, numbered: Numbered) -> Result<Space, ParamFault>
+fn space_of(alloc: Global, params: Vec<Param>, numbered: NumberedRelations) -> Result<Space, ParamFault>
     ensures value { IfOk result (λ s. without_fault (option_map (λ b. breach_fault numbered b.part b.place b.what) (space_fault (lists_of params.items numbered))) (lists_of params.items numbered) ≡ Ok s) }
     ensures fault { IfErr result (λ e. IsFound (fault_of e) (without_fault (option_map (λ b. breach_fault numbered b.part b.place b.what) (space_fault (lists_of params.items numbered))) (lists_of params.items numbered))) }
 {
-    let Numbered {
+    let NumberedRelations {
         conditions,
         condition_lines,
         clauses,
@@ -89,20 +90,16 @@ fn space_of(alloc: Global, params: Vec<Param>, numbered: Numbered) -> Result<Spa
     }
 }
 
-/// Reads the space that a parameter file states: its lines, then the names and values of its
-/// conditions and clauses, and then the space as a whole.
-///
-/// # Errors
-/// The first rule that is broken, in its line, or [`ParamFault::Memory`].
+/// The space that a text states.
 #[tactic(auto, unfolding(crate::specs::Reading::params_read))]
-pub fn read_params(alloc: Global, text: &[u8]) -> Result<Space, ParamFault>
+fn space_in(alloc: Global, text: &[u8]) -> Result<Space, ParamFault>
     ensures value { IfOk result (λ s. params_read text.now ≡ Ok s) }
     ensures fault { IfErr result (λ e. IsFound (fault_of e) (params_read text.now)) }
 {
     if text.len() > MAX_BYTES {
         return Err(broken(0, SpaceWhat::TooMany));
     }
-    let Kept {
+    let SpaceDraft {
         params,
         relations,
         ..
@@ -112,4 +109,18 @@ pub fn read_params(alloc: Global, text: &[u8]) -> Result<Space, ParamFault>
     }
     let numbered = all_by_numbers(alloc, params.as_slice(), relations.as_slice())?;
     space_of(alloc, params, numbered)
+}
+
+/// Reads the space that a parameter file states: its lines, then the names and values of its
+/// conditions and clauses, and then the space as a whole.
+///
+/// # Errors
+/// The first rule that is broken, in its line, or [`ParamFault::Memory`].
+pub fn read_params(alloc: Global, text: &[u8]) -> Result<Space, ParamFault>
+    ensures value { IfOk result (λ s. params_read text.now ≡ Ok s) }
+    ensures fault { IfErr result (λ e. IsFound (fault_of e) (params_read text.now)) }
+    ensures lines { IfOk result (λ _. AreStatements text.now) }
+    ensures form { IfErr result (IsFormless text.now) }
+{
+    space_in(alloc, text)
 }

@@ -1,6 +1,6 @@
 -- A file of two parameters and a condition, worked; and faults of small files.
 use Rattle.std.specs.Prelude.{ℕ, ◌≡◌, List, [], ◌∷◌, Ok, Err, refl, codes}
-use Rattle.param_space.specs.declared.lists.SpaceWhat.TheVariants as what
+use Rattle.param_space.specs.declared.lists.SpaceWhat.TheVariants.{NoParameters, Cycle, DefaultForbidden}
 use Rattle.param_space.specs.Space.{Lists}
 use Rattle.std.specs.Str.{is_utf8, chars}
 use Rattle.plain_text.specs.LineFolds.{fold_lines}
@@ -34,15 +34,15 @@ unfolding params_read fold_lines line_stated fault_after params_in space_stated 
 conditional_is_read = refl
 
 -- a clause that forbids the defaults
-pub forbidden_default : params_read (codes "x {a, b} [a]\ny {1, 2} [1]\n{x=a, y=1}\n") ≡ Err (space_fault_in 3 what.DefaultForbidden)
+pub forbidden_default : params_read (codes "x {a, b} [a]\ny {1, 2} [1]\n{x=a, y=1}\n") ≡ Err (space_fault_in 3 DefaultForbidden)
 unfolding params_read fold_lines line_stated fault_after params_in space_stated all_numbered condition_numbered clause_numbered pick_numbered statement_of clause_of condition_of parameter_of value_list pick_list token_texts texts_after numbered_lines numbered_from lines_among is_utf8 chars is_ancestor_within is_active_within lib.Utf8.encode
 forbidden_default = refl
 
 -- two parameters that depend on each other
-pub two_in_a_cycle : params_read (codes "x {a, b} [a]\ny {1, 2} [1]\nx | y in {1}\ny | x in {a}\n") ≡ Err (space_fault_in 3 what.Cycle)
+pub two_in_a_cycle : params_read (codes "x {a, b} [a]\ny {1, 2} [1]\nx | y in {1}\ny | x in {a}\n") ≡ Err (space_fault_in 3 Cycle)
 unfolding params_read fold_lines line_stated fault_after params_in space_stated all_numbered condition_numbered clause_numbered pick_numbered statement_of clause_of condition_of parameter_of value_list pick_list token_texts texts_after numbered_lines numbered_from lines_among is_utf8 chars is_ancestor_within is_active_within lib.Utf8.encode
 two_in_a_cycle = refl
 
-pub empty_file : params_read [] ≡ Err (space_fault_in 0 what.NoParameters)
+pub empty_file : params_read [] ≡ Err (space_fault_in 0 NoParameters)
 unfolding params_read fold_lines line_stated fault_after params_in space_stated all_numbered condition_numbered clause_numbered pick_numbered statement_of clause_of condition_of parameter_of value_list pick_list token_texts texts_after numbered_lines numbered_from lines_among is_utf8 chars is_ancestor_within is_active_within lib.Utf8.encode
 empty_file = refl
