@@ -1,8 +1,8 @@
 -- The lines of a text that is read state something, and a line without a form states nothing.
-use Rattle.std.specs.Prelude.{ℕ, zero, suc, ◌≡◌, ◌<◌, Bool, true, false, List, [], ◌∷◌, ◌++◌, Option, Some, None, Result, Ok, Err, nat_lt, length, map, option_map, ok_or, refl}
+use Rattle.std.specs.Prelude.{ℕ, suc, ◌≡◌, Bool, true, false, List, [], ◌∷◌, ◌++◌, Option, Some, None, Result, Ok, Err, nat_lt, length, map, option_map, ok_or, refl}
 use Rattle.std.specs.List.{All, Any}
 use Rattle.std.specs.Str.{is_utf8}
-use Rattle.std.proofs.Common.{ap, sym, ◌∙◌, subst, cond, ◌⊎◌, inl, inr, arith}
+use Rattle.std.proofs.Common.{ap, sym, ◌∙◌, subst, cond, inl, inr, arith}
 use Rattle.std.proofs.lemmas.List.Elements.{All-nil, All-cons}
 use Rattle.std.proofs.lemmas.Option.{same_Some}
 use Rattle.plain_text.specs.Faults.{LineFault, in_line, IsFound}

@@ -1,5 +1,5 @@
 -- The tokens that a statement is written with are read as that statement.
-use Rattle.std.specs.Prelude.{ℕ, ◌≡◌, Bool, true, false, ◌&&◌, nat_lt, List, [], ◌∷◌, ◌++◌, Some, None, length, option_map, bytes_eq, codes, refl}
+use Rattle.std.specs.Prelude.{ℕ, ◌≡◌, true, false, ◌&&◌, nat_lt, List, [], ◌∷◌, ◌++◌, Some, None, length, option_map, bytes_eq, codes, refl}
 use Rattle.std.specs.List.{list_all}
 use Rattle.std.proofs.Common.{ap, subst}
 use Rattle.std.proofs.lemmas.Bool.{and_parts, false≢true, false_from_ne_true, both_ways}

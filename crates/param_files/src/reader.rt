@@ -65,7 +65,11 @@ fn read_lines(alloc: Global, text: &[u8]) -> Result<SpaceDraft, ParamFault>
 
 /// The space of these lists. Fails with the first rule of a space that they break, in its
 /// line.
-fn space_of(alloc: Global, params: Vec<Param>, numbered: NumberedRelations) -> Result<Space, ParamFault>
+fn space_of(
+    alloc: Global,
+    params: Vec<Param>,
+    numbered: NumberedRelations,
+) -> Result<Space, ParamFault>
     ensures value { IfOk result (λ s. without_fault (option_map (λ b. breach_fault numbered b.part b.place b.what) (space_fault (lists_of params.items numbered))) (lists_of params.items numbered) ≡ Ok s) }
     ensures fault { IfErr result (λ e. IsFound (fault_of e) (without_fault (option_map (λ b. breach_fault numbered b.part b.place b.what) (space_fault (lists_of params.items numbered))) (lists_of params.items numbered))) }
 {
