@@ -5,34 +5,44 @@ use objective::Memory;
 use std::alloc::Global;
 use std::sync::Wait;
 use tuner::Status;
-use tuning_harness::{File, NONE, WORDS, ran};
+use tuning_harness::{NONE, Tuning, WORDS, ran};
 
-/// Whether a tuning by these words over the usual files and these is Ok, and prints this.
+/// Whether a tuning is Ok and printed this.
+fn has_printed(ran: &Tuning, printed: &str) -> bool {
+    let right = ran.status == Status::Ok && ran.status.code() == 0;
+    right && ran.printed.as_slice() == printed.as_bytes()
+}
+
+/// Whether a tuning is Ok and started so many children of the first seat alone, the first ones
+/// with these words.
+fn has_started(ran: &Tuning, count: usize, starts: &str) -> bool {
+    let right = ran.status == Status::Ok && ran.started == count && ran.others == 0;
+    right && ran.starts.as_str().starts_with(starts)
+}
+
+/// Whether a tuning by these words over these instances prints this.
 fn is_printed<R: Wait>(
     rt: &R,
     alloc: Global,
     words: &str,
-    files: &[File<'_>],
+    instances: &str,
     printed: &str,
 ) -> Result<bool, Memory> {
-    let ran = ran(rt, alloc, words, files, &NONE)?;
-    let right = ran.status == Status::Ok && ran.status.code() == 0;
-    Ok(right && ran.printed.as_slice() == printed.as_bytes())
+    let ran = ran(rt, alloc, words, &[("i", instances.as_bytes())], &NONE)?;
+    Ok(has_printed(&ran, printed))
 }
 
-/// Whether a tuning by these words over the usual files and these is Ok, and starts so many
-/// children of the first seat alone, the first ones with these words.
+/// Whether a tuning by these words over these instances starts these children.
 fn is_started<R: Wait>(
     rt: &R,
     alloc: Global,
     words: &str,
-    files: &[File<'_>],
+    instances: &str,
     count: usize,
     starts: &str,
 ) -> Result<bool, Memory> {
-    let ran = ran(rt, alloc, words, files, &NONE)?;
-    let right = ran.status == Status::Ok && ran.started == count && ran.others == 0;
-    Ok(right && ran.starts.as_str().starts_with(starts))
+    let ran = ran(rt, alloc, words, &[("i", instances.as_bytes())], &NONE)?;
+    Ok(has_started(&ran, count, starts))
 }
 
 /// The words for two seats.
@@ -47,108 +57,28 @@ const SHUFFLED: &str = "-scenariofile|s|-maxComparisons|0|-N|5|-numRun|42|-pair_
 /// The words for runs that depend on no seed.
 const DETERMINISTIC: &str = "-scenariofile|s|-maxComparisons|0|-N|5|-deterministic|1";
 
-/// The words for one comparison of the usual scenario.
-const SAPS_WORDS: &str =
-    "-scenariofile|saps|-maxComparisons|1|-numRun|1|-pair_order|file|-approach|basic";
-
-/// A scenario as the quickstart guide of ParamILS has it.
-const SAPS: &str = "algo = ruby saps_wrapper.rb
-execdir = example_saps
-deterministic = 0
-run_obj = runtime
-overall_obj = mean10
-cutoff_time = 5.0
-cutoff_length = max
-tunerTimeout = 300
-paramfile = p
-outdir = out
-instance_file = i
-test_instance_file = t
-";
-
-/// The parameters of the solver SAPS.
-const SAPS_PARAMS: &str = "alpha {1.01, 1.066, 1.126, 1.189, 1.256, 1.326, 1.4} [1.189]
-ps {0, 0.033, 0.066, 0.1, 0.133, 0.166, 0.2} [0.1]
-rho {0, 0.17, 0.333, 0.5, 0.666, 0.83, 1} [0.5]
-wp {0, 0.01, 0.02, 0.03, 0.04, 0.05, 0.06} [0.03]
-";
-
-const SAPS_INSTANCES: &str = "cnf/a.cnf\ncnf/b.cnf\n";
-
-/// y is inactive where x is b, as it is at first; the forbidden clause is of no configuration
-/// in which y is active.
-const INACTIVE: &str =
-    "x {a, b} [b]\ny {1, 2} [1]\nForbidden:\n{x=b, y=1}\nConditionals:\ny | x in {a}";
-
-/// The same with y active at first.
-const ACTIVE: &str =
-    "x {a, b} [a]\ny {1, 2} [1]\nForbidden:\n{x=b, y=1}\nConditionals:\ny | x in {a}";
-
 const DEFAULT: &str = "0 2 7.000000 x=a\nend 0 2 7.000000 x=a\n";
-
-const DRAWN: &str =
-    "algo = w\nparamfile = p\ninstance_file = i\ncutoff_time = 10\ncap_floor = 0.000001\napproach = basic\nN = 3\nr = 2\ns = 1\np_restart = 0.0100\npair_order = file\n";
 
 #[test]
 fn tunings_print_their_lines(rt: HostRuntime) {
-    for (name, words, files, printed) in &[
-        ("default settings", WORDS, [].as_slice(), DEFAULT),
-        ("the first of two seats", TWO_SEATS, [].as_slice(), DEFAULT),
+    for (name, words, instances, printed) in &[
+        ("default settings", WORDS, "one\n", DEFAULT),
+        ("the first of two seats", TWO_SEATS, "one\n", DEFAULT),
         // The first pair isn't solved, and the child of the second crashes.
         (
             "pairs without a solution cost the cutoff",
             WORDS,
-            [("i", b"one uc\n".as_slice())].as_slice(),
+            "one uc\n",
             "0 2 20.000000 x=a\nend 0 2 20.000000 x=a\n",
         ),
         (
             "deterministic runs",
             DETERMINISTIC,
-            [("i", b"one\ntwo\n".as_slice())].as_slice(),
+            "one\ntwo\n",
             "0 2 8.000000 x=a\nend 0 2 8.000000 x=a\n",
         ),
-        (
-            "an inactive parameter",
-            WORDS,
-            [("p", INACTIVE.as_bytes()), ("i", b"one 2222\n".as_slice())].as_slice(),
-            "0 2 4.000000 x=b\nend 0 2 4.000000 x=b\n",
-        ),
-        (
-            "an active parameter",
-            WORDS,
-            [("p", ACTIVE.as_bytes()), ("i", b"one 2222\n".as_slice())].as_slice(),
-            "0 2 4.000000 x=a y=1\nend 0 2 4.000000 x=a y=1\n",
-        ),
-        (
-            "a usual scenario",
-            SAPS_WORDS,
-            [
-                ("saps", SAPS.as_bytes()),
-                ("p", SAPS_PARAMS.as_bytes()),
-                ("i", SAPS_INSTANCES.as_bytes()),
-            ]
-            .as_slice(),
-            "0 100 399.000000 alpha=1.189 ps=0.1 rho=0.5 wp=0.03\nend 1 100 399.000000 alpha=1.189 ps=0.1 rho=0.5 wp=0.03\n",
-        ),
-        // The example of the README, with initial draws, restarts and several neighbours: its
-        // wrapper takes 1.25 and 4 seconds with the heuristic `first`, and 1.5 and 2 with the
-        // heuristic `random`.
-        (
-            "ten comparisons of the heuristics",
-            "-scenariofile|s|-maxComparisons|10",
-            [
-                ("s", DRAWN.as_bytes()),
-                (
-                    "p",
-                    b"heuristic {first, random} [first]\nrestarts {0, 10, 100} [10]\n".as_slice(),
-                ),
-                ("i", b"easy qqhh\nhard 4422\n".as_slice()),
-            ]
-            .as_slice(),
-            "0 3 6.500000 heuristic=first restarts=10\n8 3 5.000000 heuristic=random restarts=100\nend 10 3 5.000000 heuristic=random restarts=100\n",
-        ),
     ] {
-        let right = is_printed(&rt, rt.alloc(), words, files, printed);
+        let right = is_printed(&rt, rt.alloc(), words, instances, printed);
         check(&rt, matches!(right, Ok(true)), name);
     }
 }
@@ -193,94 +123,178 @@ w two 0 10.000000 2147483647 0 -x a
 
 #[test]
 fn tunings_start_their_children(rt: HostRuntime) {
-    for (name, words, files, count, starts) in &[
-        ("default settings", WORDS, [].as_slice(), 2, TWO_PAIRS),
-        (
-            "the first of two seats",
-            TWO_SEATS,
-            [].as_slice(),
-            2,
-            TWO_PAIRS,
-        ),
+    for (name, words, instances, count, starts) in &[
+        ("default settings", WORDS, "one\n", 2, TWO_PAIRS),
+        ("the first of two seats", TWO_SEATS, "one\n", 2, TWO_PAIRS),
         (
             "each evaluation in full",
             "-scenariofile|s|-maxComparisons|1",
-            [].as_slice(),
+            "one\n",
             6,
             IN_FULL,
         ),
         (
             "pairs in file order",
             FIVE,
-            [("i", b"one\ntwo  easy  one \n".as_slice())].as_slice(),
+            "one\ntwo  easy  one \n",
             5,
             IN_FILE_ORDER,
         ),
         (
             "shuffled pairs",
             SHUFFLED,
-            [("i", b"one\ntwo\nthree".as_slice())].as_slice(),
+            "one\ntwo\nthree",
             5,
             IN_SHUFFLED_ORDER,
         ),
         (
             "deterministic runs",
             DETERMINISTIC,
-            [("i", b"one\ntwo\n".as_slice())].as_slice(),
+            "one\ntwo\n",
             2,
             ONCE_EACH,
         ),
-        (
-            "an inactive parameter isn't passed on",
-            WORDS,
-            [("p", INACTIVE.as_bytes()), ("i", b"one 2222\n".as_slice())].as_slice(),
-            2,
-            "w one 2222 10.000000 2147483647 1 -x b\nw one 2222 10.000000 2147483647 2 -x b\n",
-        ),
-        (
-            "an active parameter is passed on",
-            WORDS,
-            [("p", ACTIVE.as_bytes()), ("i", b"one 2222\n".as_slice())].as_slice(),
-            2,
-            "w one 2222 10.000000 2147483647 1 -x a -y 1\nw one 2222 10.000000 2147483647 2 -x a -y 1\n",
-        ),
-        // The opening evaluation and the two of the comparison have 100 runs each.
-        (
-            "a usual scenario",
-            SAPS_WORDS,
-            [
-                ("saps", SAPS.as_bytes()),
-                ("p", SAPS_PARAMS.as_bytes()),
-                ("i", SAPS_INSTANCES.as_bytes()),
-            ]
-            .as_slice(),
-            300,
-            "ruby saps_wrapper.rb cnf/a.cnf 0 5.000000 2147483647 1 -alpha 1.189 -ps 0.1 -rho 0.5 -wp 0.03\n",
-        ),
     ] {
-        let right = is_started(&rt, rt.alloc(), words, files, *count, starts);
+        let right = is_started(&rt, rt.alloc(), words, instances, *count, starts);
         check(&rt, matches!(right, Ok(true)), name);
     }
 }
 
-/// Whether a tuning by these words over these files asks for what isn't built.
-fn is_unbuilt<R: Wait>(
+/// y is inactive where x is b, as it is at first; the forbidden clause is of no configuration
+/// in which y is active.
+const INACTIVE: &str =
+    "x {a, b} [b]\ny {1, 2} [1]\nForbidden:\n{x=b, y=1}\nConditionals:\ny | x in {a}";
+
+/// The same with y active at first.
+const ACTIVE: &str =
+    "x {a, b} [a]\ny {1, 2} [1]\nForbidden:\n{x=b, y=1}\nConditionals:\ny | x in {a}";
+
+/// Whether a tuning over this parameter file prints this, and starts these two children.
+fn is_passed_on<R: Wait>(
     rt: &R,
     alloc: Global,
-    words: &str,
-    files: &[File<'_>],
+    params: &str,
+    printed: &str,
+    starts: &str,
 ) -> Result<bool, Memory> {
-    let ran = ran(rt, alloc, words, files, &NONE)?;
-    Ok(ran.status == Status::Unbuilt && ran.printed.as_slice() == b"unbuilt\n".as_slice())
+    let files = [("p", params.as_bytes()), ("i", b"one 2222\n".as_slice())];
+    let ran = ran(rt, alloc, WORDS, &files, &NONE)?;
+    Ok(has_printed(&ran, printed) && has_started(&ran, 2, starts))
 }
 
 #[test]
-fn a_usual_scenario_asks_for_focused_search(rt: HostRuntime) {
+fn inactive_parameters_are_not_passed_on(rt: HostRuntime) {
+    for (params, printed, starts) in &[
+        (
+            INACTIVE,
+            "0 2 4.000000 x=b\nend 0 2 4.000000 x=b\n",
+            "w one 2222 10.000000 2147483647 1 -x b\nw one 2222 10.000000 2147483647 2 -x b\n",
+        ),
+        (
+            ACTIVE,
+            "0 2 4.000000 x=a y=1\nend 0 2 4.000000 x=a y=1\n",
+            "w one 2222 10.000000 2147483647 1 -x a -y 1\nw one 2222 10.000000 2147483647 2 -x a -y 1\n",
+        ),
+    ] {
+        let right = is_passed_on(&rt, rt.alloc(), params, printed, starts);
+        check(&rt, matches!(right, Ok(true)), params);
+    }
+}
+
+const DRAWN: &str =
+    "algo = w\nparamfile = p\ninstance_file = i\ncutoff_time = 10\ncap_floor = 0.000001\napproach = basic\nN = 3\nr = 2\ns = 1\np_restart = 0.0100\npair_order = file\n";
+
+/// The example of the README, with initial draws, restarts and several neighbours. Its wrapper
+/// takes 1.25 and 4 seconds with the heuristic `first`, and 1.5 and 2 with `random`.
+fn ten_are_printed<R: Wait>(rt: &R, alloc: Global) -> Result<bool, Memory> {
+    let params = b"heuristic {first, random} [first]\nrestarts {0, 10, 100} [10]\n".as_slice();
+    let files = [
+        ("s", DRAWN.as_bytes()),
+        ("p", params),
+        ("i", b"easy qqhh\nhard 4422\n".as_slice()),
+    ];
+    let ran = ran(
+        rt,
+        alloc,
+        "-scenariofile|s|-maxComparisons|10",
+        &files,
+        &NONE,
+    )?;
+    Ok(has_printed(
+        &ran,
+        "0 3 6.500000 heuristic=first restarts=10\n8 3 5.000000 heuristic=random restarts=100\nend 10 3 5.000000 heuristic=random restarts=100\n",
+    ))
+}
+
+#[test]
+fn ten_comparisons_find_the_random_heuristic(rt: HostRuntime) {
+    let right = ten_are_printed(&rt, rt.alloc());
+    check(&rt, matches!(right, Ok(true)), "ten comparisons");
+}
+
+/// The words for one comparison of the usual scenario.
+const SAPS_WORDS: &str =
+    "-scenariofile|saps|-maxComparisons|1|-numRun|1|-pair_order|file|-approach|basic";
+
+/// A scenario as the quickstart guide of ParamILS has it.
+const SAPS: &str = "algo = ruby saps_wrapper.rb
+execdir = example_saps
+deterministic = 0
+run_obj = runtime
+overall_obj = mean10
+cutoff_time = 5.0
+cutoff_length = max
+tunerTimeout = 300
+paramfile = p
+outdir = out
+instance_file = i
+test_instance_file = t
+";
+
+/// The parameters of the solver SAPS.
+const SAPS_PARAMS: &str = "alpha {1.01, 1.066, 1.126, 1.189, 1.256, 1.326, 1.4} [1.189]
+ps {0, 0.033, 0.066, 0.1, 0.133, 0.166, 0.2} [0.1]
+rho {0, 0.17, 0.333, 0.5, 0.666, 0.83, 1} [0.5]
+wp {0, 0.01, 0.02, 0.03, 0.04, 0.05, 0.06} [0.03]
+";
+
+const SAPS_INSTANCES: &str = "cnf/a.cnf\ncnf/b.cnf\n";
+
+/// A tuning by these words of the usual scenario.
+fn ran_usual<R: Wait>(rt: &R, alloc: Global, words: &str) -> Result<Tuning, Memory> {
     let files = [
         ("saps", SAPS.as_bytes()),
         ("p", SAPS_PARAMS.as_bytes()),
         ("i", SAPS_INSTANCES.as_bytes()),
     ];
-    let right = is_unbuilt(&rt, rt.alloc(), "-scenariofile|saps", &files);
+    ran(rt, alloc, words, &files, &NONE)
+}
+
+/// Whether one comparison of the usual scenario is printed, and its children are started. The
+/// opening evaluation and the two of the comparison have 100 runs each.
+fn usual_is_read<R: Wait>(rt: &R, alloc: Global) -> Result<bool, Memory> {
+    let ran = ran_usual(rt, alloc, SAPS_WORDS)?;
+    let printed =
+        "0 100 399.000000 alpha=1.189 ps=0.1 rho=0.5 wp=0.03\nend 1 100 399.000000 alpha=1.189 ps=0.1 rho=0.5 wp=0.03\n";
+    let first =
+        "ruby saps_wrapper.rb cnf/a.cnf 0 5.000000 2147483647 1 -alpha 1.189 -ps 0.1 -rho 0.5 -wp 0.03\n";
+    Ok(has_printed(&ran, printed) && has_started(&ran, 300, first))
+}
+
+#[test]
+fn a_usual_scenario_is_read_as_it_stands(rt: HostRuntime) {
+    let right = usual_is_read(&rt, rt.alloc());
+    check(&rt, matches!(right, Ok(true)), "a usual scenario");
+}
+
+/// Whether the usual scenario by itself asks for what isn't built.
+fn usual_is_unbuilt<R: Wait>(rt: &R, alloc: Global) -> Result<bool, Memory> {
+    let ran = ran_usual(rt, alloc, "-scenariofile|saps")?;
+    Ok(ran.status == Status::Unbuilt && ran.printed.as_slice() == b"unbuilt\n".as_slice())
+}
+
+#[test]
+fn a_usual_scenario_asks_for_focused_search(rt: HostRuntime) {
+    let right = usual_is_unbuilt(&rt, rt.alloc());
     check(&rt, matches!(right, Ok(true)), "focused search");
 }
