@@ -50,66 +50,68 @@ fn a_missing_file_is_named(rt: HostRuntime) {
 
 #[test]
 fn files_that_have_a_fault_are_named(rt: HostRuntime) {
-    // A file with other contents, the read that fails, and the line that follows.
-    for (name, bytes, read, line) in &[
-        ("s", b"".as_slice(), 0, "badfile s 0 Missing\n"),
-        ("s", b"# \xff\n".as_slice(), 0, "badfile s 1 NotText\n"),
-        (
-            "s",
-            b"algo = w\nparamfile = p\ninstance_file = i\ncutoff_time = 0\n".as_slice(),
-            0,
-            "badfile s 4 OutOfRange\n",
-        ),
-        ("p", b"".as_slice(), 0, "badfile p 0 NoParameters\n"),
-        (
-            "p",
-            b"x {a, b} [c]\n".as_slice(),
-            0,
-            "badfile p 1 BadDefault\n",
-        ),
-        // The instance file, which is read later, isn't reached.
-        ("p", b"".as_slice(), 3, "badfile p 0 NoParameters\n"),
+    for (name, bytes, line) in &[
+        ("s", b"".as_slice(), "badfile s 0 Missing\n"),
+        ("s", b"# \xff\n".as_slice(), "badfile s 1 NotText\n"),
         (
             "p",
             b"x {a} [a]\n\xc3\n".as_slice(),
-            0,
             "badfile p 2 NotText\n",
         ),
-        (
-            "p",
-            b"x {a, b} [a]\ny {1, 2} [1]\n{x=a, y=1}\n".as_slice(),
-            0,
-            "badfile p 3 DefaultForbidden\n",
-        ),
-        (
-            "p",
-            b"x {a, b} [a]\ny {1, 2} [1]\nx | y in {1}\ny | x in {a}\n".as_slice(),
-            0,
-            "badfile p 3 Cycle\n",
-        ),
-        (
-            "p",
-            b"x {a, b} [a]\ny {1, 2} [1]\n# 3\n\nz | x in {a}\n".as_slice(),
-            0,
-            "badfile p 5 UnknownName\n",
-        ),
-        (
-            "p",
-            b"x {a, b} [a]\ny {1, 2} [1]\nx in {a}\n".as_slice(),
-            0,
-            "badfile p 3 Form\n",
-        ),
-        ("i", b"".as_slice(), 0, "badfile i 0 NoInstances\n"),
-        ("i", b" \n\t\n".as_slice(), 0, "badfile i 0 NoInstances\n"),
+        ("i", b"".as_slice(), "badfile i 0 NoInstances\n"),
+        ("i", b" \n\t\n".as_slice(), "badfile i 0 NoInstances\n"),
         (
             "i",
             b"one\n\ntwo \x80\n".as_slice(),
-            0,
             "badfile i 3 NotText\n",
         ),
     ] {
         let files = [(*name, *bytes)];
-        let right = is_refused_over(&rt, rt.alloc(), &files, *read, 3, line);
+        let right = is_refused_over(&rt, rt.alloc(), &files, 0, 3, line);
+        check(&rt, matches!(right, Ok(true)), line);
+    }
+}
+
+/// Whether a tuning of this parameter file, of which this read fails, is refused by this line.
+fn is_refused_by<R: Wait>(
+    rt: &R,
+    alloc: Global,
+    params: &str,
+    read: u32,
+    line: &str,
+) -> Result<bool, Memory> {
+    is_refused_over(rt, alloc, &[("p", params.as_bytes())], read, 3, line)
+}
+
+#[test]
+fn parameter_files_that_have_a_fault_are_named(rt: HostRuntime) {
+    for (params, read, line) in &[
+        ("", 0, "badfile p 0 NoParameters\n"),
+        // The instance file, whose read fails, comes later.
+        ("", 3, "badfile p 0 NoParameters\n"),
+        ("x {a, b} [c]\n", 0, "badfile p 1 BadDefault\n"),
+        (
+            "x {a, b} [a]\ny {1, 2} [1]\n{x=a, y=1}\n",
+            0,
+            "badfile p 3 DefaultForbidden\n",
+        ),
+        (
+            "x {a, b} [a]\ny {1, 2} [1]\nx | y in {1}\ny | x in {a}\n",
+            0,
+            "badfile p 3 Cycle\n",
+        ),
+        (
+            "x {a, b} [a]\ny {1, 2} [1]\n# 3\n\nz | x in {a}\n",
+            0,
+            "badfile p 5 UnknownName\n",
+        ),
+        (
+            "x {a, b} [a]\ny {1, 2} [1]\nx in {a}\n",
+            0,
+            "badfile p 3 Form\n",
+        ),
+    ] {
+        let right = is_refused_by(&rt, rt.alloc(), params, *read, line);
         check(&rt, matches!(right, Ok(true)), line);
     }
 }
@@ -149,10 +151,21 @@ fn further_lines_of_a_scenario_are_named(rt: HostRuntime) {
 }
 
 #[test]
-fn a_missing_key_is_named(rt: HostRuntime) {
-    let headless = SCENARIO.split_once('\n').map_or("", |(_, rest)| rest);
-    let right = is_refused_with(&rt, rt.alloc(), headless, "badfile s 0 Missing\n");
-    check(&rt, matches!(right, Ok(true)), "algo");
+fn faults_of_scenarios_are_named(rt: HostRuntime) {
+    let headless = match SCENARIO.split_once('\n') {
+        Some((_, rest)) => rest,
+        None => "",
+    };
+    for (scenario, line) in &[
+        (headless, "badfile s 0 Missing\n"),
+        (
+            "algo = w\nparamfile = p\ninstance_file = i\ncutoff_time = 0\n",
+            "badfile s 4 OutOfRange\n",
+        ),
+    ] {
+        let right = is_refused_with(&rt, rt.alloc(), scenario, line);
+        check(&rt, matches!(right, Ok(true)), line);
+    }
 }
 
 /// The lines of so many parameters with the values 0 and 1.

@@ -168,20 +168,35 @@ fn finds_worked_lines(rt: HostRuntime) {
 
 #[test]
 fn cuts_texts(rt: HostRuntime) {
-    for (name, right) in &[
-        ("without front", front_trimmed(" \ta b ") == "a b "),
-        ("without end", end_trimmed(" a b \t") == " a b"),
-        ("without ends", trimmed("\t a b ") == "a b"),
-        ("first word", first_word("a b c") == "a"),
-        ("after the first word", after_word("a b c") == " b c"),
-        ("before a comment", uncommented("a # b # c") == "a "),
-        ("after a prefix", after_prefix("-key", "-") == Some("key")),
-        ("two parts", parted("a=b=c", '=') == Some(("a", "b=c"))),
-        ("a count", read_count(b"0120") == Some(120)),
-        ("digits", all_digits(b"0120") && !all_digits(b"1.5")),
+    for (name, found, wanted) in &[
+        ("without front", front_trimmed(" \ta b "), "a b "),
+        ("without end", end_trimmed(" a b \t"), " a b"),
+        ("without ends", trimmed("\t a b "), "a b"),
+        ("first word", first_word("a b c"), "a"),
+        ("after the first word", after_word("a b c"), " b c"),
+        ("before a comment", uncommented("a # b # c"), "a "),
     ] {
-        check(&rt, *right, name);
+        check(&rt, *found == *wanted, name);
     }
+}
+
+/// Whether a text is parted at the first separator, and a prefix is left out.
+fn are_parted() -> bool {
+    match (parted("a=b=c", '='), after_prefix("-key", "-")) {
+        (Some((before, after)), Some(key)) => before == "a" && after == "b=c" && key == "key",
+        _ => false,
+    }
+}
+
+/// Whether digits are told, and read as a number.
+fn are_counted() -> bool {
+    all_digits(b"0120") && !all_digits(b"1.5") && read_count(b"0120") == Some(120)
+}
+
+#[test]
+fn parts_and_counts(rt: HostRuntime) {
+    check(&rt, are_parted(), "parts");
+    check(&rt, are_counted(), "counts");
 }
 
 /// Whether b is among these texts, c is the third, and they differ.
