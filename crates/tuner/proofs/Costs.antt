@@ -10,10 +10,11 @@ use Rattle.objective.specs.declared.Outcome.TheVariants as outcome
 use Rattle.objective.specs.declared.Answer.{Answer}
 use Rattle.objective.specs.declared.Answer.TheVariants as answer
 use Rattle.outside.specs.declared.runs.Key.{Key}
-use Rattle.outside.specs.declared.runs.Run as runs
-use Rattle.tuner.specs.Problem.{Problem, run_at, key_at}
+use Rattle.outside.specs.declared.runs.Run.{Run}
+use Rattle.tuner.specs.Problem.{Problem}
+use Rattle.tuner.specs.ProblemRuns.{run_at, key_at}
 use Rattle.uncapped.specs.Totals.{total_cost, plus}
-use Rattle.tuner.specs.Evaluating.{cost_seen}
+use Rattle.tuner.specs.Evaluations.{cost_seen}
 
 solved : (limits : Bounds) (t : Micros) (b : Bool) → cost_seen limits (cond b (answer.Solved t) answer.Timeout) ≡ cost_within limits (cond b (outcome.Solved t) outcome.Unsolved)
 solved limits t true = refl
@@ -34,7 +35,7 @@ cost_seen-seen limits (outcome.Crashed t) = crashed limits t (nat_le t.0 limits.
 cost_seen-seen limits (outcome.Abort t) = aborting limits t (nat_le t.0 limits.cutoff)
 
 -- the cost of a run at a place, by the answer that it shows
-pub cost_of-run : (problem : Problem) (config : List ℕ) (place : ℕ) (outcome : Key → Outcome) (run : runs.Run) (a : Answer) (limits : Bounds) (r : Option ℕ)
+pub cost_of-run : (problem : Problem) (config : List ℕ) (place : ℕ) (outcome : Key → Outcome) (run : Run) (a : Answer) (limits : Bounds) (r : Option ℕ)
     → run ≡ run_at problem config place → a ≡ seen (outcome run.key) run.cutoff.0 → limits ≡ problem.rules.limits → r ≡ cost_seen limits a
     → cost_of problem.rules.limits (outcome (key_at problem config place)) ≡ r
 cost_of-run problem config place outcome run a limits r e f l h =

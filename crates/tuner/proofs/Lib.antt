@@ -1,7 +1,6 @@
-pub mod Costs
-pub mod Taking
-pub mod Sayings
-pub mod Meetings
-pub mod RunsEnd
-pub mod Promised
-pub mod Endings
+mod Costs
+mod SaidTexts
+mod PresentAsks
+mod RunEndings
+mod PromiseLemmas
+mod CallEndings

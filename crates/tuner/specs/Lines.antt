@@ -5,7 +5,7 @@ use Rattle.std.specs.Fmt.{decimal}
 use Rattle.plain_text.specs.Decimals.{seconds}
 use Rattle.param_space.specs.Space.{Lists}
 use Rattle.param_space.specs.Settings.{active_values, settings_text}
-use Rattle.tuner.specs.Faults.{what_text}
+use Rattle.tuner.specs.RuleNames.{rule_name}
 use Rattle.tuner.specs.declared.status.What.{What}
 use Rattle.uncapped.specs.Procedure.{Incumbent}
 use Rattle.uncapped.specs.Uncapped.{Run}
@@ -53,7 +53,7 @@ seats_line asked given = codes "seats " ++ (decimal asked ++ (codes " " ++ (deci
 
 -- the file, the line and the rule that it breaks
 abbrev pub bad_file_line : List ℕ → ℕ → What → List ℕ
-bad_file_line name line what = codes "badfile " ++ (name ++ (codes " " ++ (decimal line ++ (codes " " ++ (what_text what ++ codes "\n")))))
+bad_file_line name line what = codes "badfile " ++ (name ++ (codes " " ++ (decimal line ++ (codes " " ++ (rule_name what ++ codes "\n")))))
 
 -- the place and the settings of the run that failed
 abbrev pub child_fault_line : Lists → ℕ → List ℕ → List ℕ

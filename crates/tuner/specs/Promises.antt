@@ -3,9 +3,9 @@ use Rattle.std.specs.Prelude.{ℕ, ◌≡◌, ◌<◌, ◌≤◌, ◌⊎◌, Boo
 use Rattle.objective.specs.Costs.{Table}
 use Rattle.objective.specs.declared.Outcome.{Outcome}
 use Rattle.outside.specs.declared.runs.Key.{Key}
-use Rattle.outside.specs.declared.runs.Run as runs
+use Rattle.outside.specs.declared.runs.Run.{Run}
 use Rattle.outside.specs.Counts.{Rose}
-use Rattle.outside.specs.Meanings.{after_taking}
+use Rattle.outside.specs.Changes.{after_taking}
 use Rattle.param_space.specs.Configurations.{IsConfig}
 use Rattle.scenario_files.specs.Words.{words_read}
 use Rattle.scenario_files.specs.declared.call.Words.{Words}
@@ -13,12 +13,14 @@ use Rattle.scenario_files.specs.declared.draft.Approach.TheVariants.{Basic, Focu
 use Rattle.scenario_files.specs.declared.faults.WordFault.{WordFault}
 use Rattle.scenario_files.specs.declared.faults.WordFault.TheVariants as word_fault
 use Rattle.uncapped.specs.Procedure.{Incumbent, Finished, Aborted}
-use Rattle.uncapped.specs.Uncapped.{Run}
-use Rattle.tuner.specs.Evaluating.{IsPlace}
+use Rattle.uncapped.specs.Uncapped
+use Rattle.tuner.specs.Evaluations.{IsPlace}
 use Rattle.tuner.specs.Lines.{output_of, all_lines, unbuilt_line, no_memory_line, usage_line, bad_file_line, read_fault_line, seats_line, child_fault_line}
-use Rattle.tuner.specs.Problem.{Reads, Bad, Problem, problem_of, file_name, run_at, uncapped_run}
+use Rattle.tuner.specs.Problem.{Problem}
+use Rattle.tuner.specs.ProblemRuns.{run_at, uncapped_run}
+use Rattle.tuner.specs.Readings.{Reads, Bad, problem_of, file_name}
 use Rattle.tuner.specs.Seats.{first_count, first_run}
-use Rattle.tuner.specs.Writing.{TookPartOf, WroteBadly}
+use Rattle.outside.specs.WholePieces.{TookPartOf, WroteBadly}
 use Rattle.tuner.specs.declared.reading.refusal.Refusal.{Refusal}
 use Rattle.tuner.specs.declared.reading.refusal.Refusal.TheVariants as refusal
 use Rattle.tuner.specs.declared.seat.Seat.{Seat}
@@ -33,7 +35,7 @@ pub record Running : Type 0 where
   pub tables : Problem → Table  -- the outcome table of each problem
   pub faults : ℕ  -- the count of its spawner before and after the call
   pub faults' : ℕ
-  pub failed_run : Option runs.Run  -- of its spawner after the call
+  pub failed_run : Option Run  -- of its spawner after the call
 
 -- what a call is given, and what its objects tell of it
 pub record Call : Type 0 where
@@ -44,27 +46,31 @@ pub record Call : Type 0 where
   pub seats : ℕ  -- how many there are
   pub running : Running
 
+-- what the first of some seats tells
+abbrev pub running_by : {S : Type 0} → Option (Key → Outcome) → (Problem → Table) → (S → ℕ) → (S → Option Run) → List (Seat S) → List (Seat S) → Running
+running_by truth tables faults failed_run seats seats' = record {
+  truth = truth;
+  tables = tables;
+  faults = first_count faults seats;
+  faults' = first_count faults seats';
+  failed_run = first_run failed_run seats';
+}
+
 -- what is told of a call, by what is told of its files and seats
 abbrev pub call_by : {F S : Type 0} → List (List ℕ) → (F → Option (List ℕ → Option (List ℕ))) → (F → ℕ) → F → F
-    → Option (Key → Outcome) → (Problem → Table) → (S → ℕ) → (S → Option runs.Run) → List (Seat S) → List (Seat S) → Call
+    → Option (Key → Outcome) → (Problem → Table) → (S → ℕ) → (S → Option Run) → List (Seat S) → List (Seat S) → Call
 call_by words contents reads_failed files files' truth tables faults failed_run seats seats' = record {
   words = words;
   contents = contents files;
   reads_failed = reads_failed files;
   reads_failed' = reads_failed files';
   seats = length seats;
-  running = record {
-    truth = truth;
-    tables = tables;
-    faults = first_count faults seats;
-    faults' = first_count faults seats';
-    failed_run = first_run failed_run seats';
-  };
+  running = running_by truth tables faults failed_run seats seats';
 }
 
 -- the key word at this place is the first that is wrong; or none is, there are so many words and none names the scenario file
 abbrev pub IsMisused : Call → ℕ → Type 0
-IsMisused call place = words_read call.words ≡ Err (word_fault.At place)
+IsMisused call place = words_read call.words ≡ Err place
 
 -- the words have a reading
 pub record IsCalled (call : Call) : Type 0 where
@@ -81,11 +87,11 @@ abbrev pub IsSeated : Call → Problem → Type 0
 IsSeated call problem = problem.rules.workers ≤ call.seats
 
 -- the run of the uncapped procedure over the seats' truth
-abbrev pub true_run : Running → Problem → Run
+abbrev pub true_run : Running → Problem → Uncapped.Run
 true_run running problem = uncapped_run problem (running.tables problem)
 
 -- a run of the procedure finished with these entries and this last line
-pub record RanTo (run : Run) (entries : List Incumbent) (last : Incumbent) : Type 0 where
+pub record RanTo (run : Uncapped.Run) (entries : List Incumbent) (last : Incumbent) : Type 0 where
   pub finished : run.end ≡ Finished
   pub all : entries ≡ map (λ added. added.entry) run.entries
   pub end : last ≡ run.last

@@ -1,12 +1,13 @@
 //! The evaluation of a configuration on all pairs, in full.
-ghost use Rattle.std.specs.Prelude.{◌≡◌, ◌≤◌, IsTrue, Some, None, IfSome, option_map};
+ghost use Rattle.std.specs.Prelude.{◌≡◌, ◌≤◌, ◌*◌, IsTrue, Some, None, IfSome, option_map};
 ghost use Rattle.objective.specs.Costs.{cost_of, IsWithin};
+ghost use Rattle.objective.specs.Limits.{max_cutoff};
 ghost use Rattle.objective.specs.declared.Outcome.{Outcome};
 ghost use Rattle.outside.specs.Counts.{Rose};
 ghost use Rattle.outside.specs.declared.runs.Key.{Key};
 ghost use Rattle.param_space.specs.Space.{Belongs};
-ghost use Rattle.tuner.specs.Problem.{table_of, run_at};
-ghost use Rattle.tuner.specs.Evaluating.{cost_seen, sums_of, IfSum, OnAborted, IfFailed, IsPlace};
+ghost use Rattle.tuner.specs.ProblemRuns.{table_of, run_at};
+ghost use Rattle.tuner.specs.Evaluations.{cost_seen, sums_of, IfSum, OnAborted, IfFailed, IsPlace};
 
 use crate::problem::Problem;
 use crate::running::{RunEnd, run_once};
@@ -36,7 +37,7 @@ pub(crate) enum Evaluated {
 fn cost_of_answer(answer: Answer, limits: &Limits) -> Option<Sum>
     requires { IsWithin answer limits.now.cutoff }
     ensures value { option_map (λ s. s.0) result ≡ cost_seen limits.now answer }
-    ensures bound { IfSome result (λ s. s.0 ≤ 1_000_000_000_000_000) }
+    ensures bound { IfSome result (λ s. s.0 ≤ 1000 * max_cutoff) }
 {
     let _ = &limits.cutoff; // the type keeps it in range
     match answer {
@@ -62,7 +63,7 @@ fn cost_at<R: Wait, S: Spawner>(
     ensures idle { IsTrue (S.idle spawner.new) }
     ensures counts { S.faults spawner.old ≤ S.faults spawner.new }
     ensures sum { IfSum result (λ x. (outcome : Key → Outcome) → S.truth ≡ Some outcome → cost_of problem.now.rules.limits (table_of (Some outcome) problem.now config.now place) ≡ Some x) }
-    ensures bound { IfSum result (λ x. x ≤ 1_000_000_000_000_000) }
+    ensures bound { IfSum result (λ x. x ≤ 1000 * max_cutoff) }
     ensures aborted { OnAborted result ((outcome : Key → Outcome) → S.truth ≡ Some outcome → cost_of problem.now.rules.limits (table_of (Some outcome) problem.now config.now place) ≡ None) }
     ensures failed { IfFailed result (λ i. i ≡ place) }
     ensures fault { IfFailed result (λ i. Rose (S.faults spawner.old) (S.faults spawner.new)) }

@@ -6,15 +6,15 @@ ghost use Rattle.param_space.specs.Space.{Belongs};
 ghost use Rattle.uncapped.specs.Uncapped.{uncapped};
 ghost use Rattle.ils_face.specs.declared.rules.Rules.{Rules};
 ghost use Rattle.ils_face.specs.Setups.{setup_of};
-ghost use Rattle.ils_face.specs.Shown.{sums_under};
-ghost use Rattle.tuner.specs.Problem.{procedure_of, table_of};
-ghost use Rattle.tuner.specs.Lines.{all_lines as all_texts, child_fault_line as child_fault_text};
+ghost use Rattle.ils_face.specs.Follows.{sums_under};
+ghost use Rattle.tuner.specs.ProblemRuns.{procedure_of, table_of};
+ghost use Rattle.tuner.specs.Lines;
 ghost use Rattle.tuner.specs.Promises.{taking_by, Reported, RunEnding};
-ghost use Rattle.tuner.specs.Searched.{IsSound};
+ghost use Rattle.tuner.specs.SearchEnds.{IsSound};
 
 use crate::lines::{all_lines, child_fault_line};
 use crate::problem::Problem;
-use crate::saying::{say, say_all};
+use crate::saying::{say, say_all, say_made, say_no_memory};
 use crate::searching::{Searched, meet_all};
 use crate::status::Status;
 use ils_face::Search;
@@ -32,11 +32,11 @@ fn report_end<P: Search, O: Sink>(
 ) -> Status
     requires rules { P.rules_of search.now ≡ problem.now.rules }
     requires sound { IsSound problem.now.rules (P.shown problem.now.rules (P.replies_of search.now)) }
-    ensures { let view = P.shown problem.now.rules (P.replies_of search.now) in Reported (taking_by O.taken O.faults O.empties out.old out.new) result Status.Ok (all_texts problem.now.rules.space view.entries view.last) }
+    ensures { let view = P.shown problem.now.rules (P.replies_of search.now) in Reported (taking_by O.taken O.faults O.empties out.old out.new) result Status.Ok (Lines.all_lines problem.now.rules.space view.entries view.last) }
 {
     match all_lines(alloc, &problem.rules.space, search) {
         Ok(lines) => say_all(out, lines.as_slice(), Status::Ok),
-        Err(_) => say(out, b"nomemory\n", Status::NoMemory),
+        Err(_) => say_no_memory(out),
     }
 }
 
@@ -49,12 +49,10 @@ fn report_failure<O: Sink>(
     out: &mut O,
 ) -> Status
     requires { Belongs problem.now.rules.space.params config.now }
-    ensures { Reported (taking_by O.taken O.faults O.empties out.old out.new) result (Status.ChildFault 0) (child_fault_text problem.now.rules.space place config.now) }
+    ensures { Reported (taking_by O.taken O.faults O.empties out.old out.new) result (Status.ChildFault 0) (Lines.child_fault_line problem.now.rules.space place config.now) }
 {
-    match child_fault_line(alloc, &problem.rules.space, place, config) {
-        Ok(line) => say(out, line.as_slice(), Status::ChildFault { seat: 0 }),
-        Err(_) => say(out, b"nomemory\n", Status::NoMemory),
-    }
+    let line = child_fault_line(alloc, &problem.rules.space, place, config);
+    say_made(out, line, Status::ChildFault { seat: 0 })
 }
 
 /// Runs the search of a problem, and prints how that ended. It may wait.
@@ -72,12 +70,12 @@ pub(crate) fn run_search<R: Wait, P: Search, O: Sink, S: Spawner>(
     ensures ending { RunEnding (record { truth = S.truth; tables = table_of S.truth; faults = S.faults spawner.old; faults' = S.faults spawner.new; failed_run = S.failed_run spawner.new }) problem.now (taking_by O.taken O.faults O.empties out.old out.new) result }
 {
     let Ok(mut search) = P::open(alloc, &problem.rules) else {
-        return say(out, b"nomemory\n", Status::NoMemory);
+        return say_no_memory(out);
     };
     match meet_all(rt, alloc, problem, &mut search, spawner) {
         Searched::Ended => report_end(alloc, problem, &search, out),
         Searched::Aborted => say(out, b"unbuilt\n", Status::Unbuilt),
         Searched::Failed { config, place } => report_failure(alloc, problem, &config, place, out),
-        Searched::Memory => say(out, b"nomemory\n", Status::NoMemory),
+        Searched::Memory => say_no_memory(out),
     }
 }

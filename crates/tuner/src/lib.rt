@@ -2,12 +2,12 @@
 #![tactic(auto)]
 
 mod evaluation;
-mod faults;
 mod finishing;
 mod lines;
 mod meeting;
 mod problem;
 mod reading;
+mod rule_names;
 mod running;
 mod saying;
 mod searching;
@@ -15,7 +15,6 @@ mod seat;
 mod status;
 mod truth;
 mod tuning;
-mod writing;
 
 pub use problem::Problem;
 pub use seat::Seat;

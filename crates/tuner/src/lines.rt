@@ -3,9 +3,9 @@ ghost use Rattle.std.specs.Prelude.{◌≡◌, ◌++◌, ◌∷◌, [], All, IfO
 ghost use Rattle.std.specs.List.{flat_map};
 ghost use Rattle.param_space.specs.Space.{Belongs};
 ghost use Rattle.param_space.specs.Configurations.{IsConfig};
-ghost use Rattle.tuner.specs.Lines.{entry_line as entry_text, entry_lines as entry_texts, all_lines as all_texts, bad_file_line as bad_file_text, read_fault_line as read_fault_text, usage_line as usage_text, seats_line as seats_text, child_fault_line as child_fault_text};
+ghost use Rattle.tuner.specs.Lines;
 
-use crate::faults::what_name;
+use crate::rule_names::rule_name;
 use crate::status::What;
 use ils_face::{Entry, Search};
 use objective::{Memory, Sum};
@@ -23,11 +23,10 @@ fn entry_line(
     config: &Config,
 ) -> Result<Vec<u8>, Memory>
     requires { Belongs space.now.params config.now }
-    ensures { IfOk result (λ line. line.items ≡ entry_text space.now (record { compared = compared; runs = runs; sum = sum.0; config = config.now })) }
+    ensures { IfOk result (λ line. line.items ≡ Lines.entry_line space.now (record { compared = compared; runs = runs; sum = sum.0; config = config.now })) }
 {
-    let mut line = Vec::new(alloc);
-    line.extend_from_slice(format!(in alloc; "{compared} {runs} ")?.as_bytes())?;
-    push_seconds(alloc, &mut line, sum.0)?;
+    let mut line = format!(in alloc; "{compared} {runs} ")?.into_bytes();
+    push_seconds(&mut line, sum.0)?;
     line.push(b' ')?;
     space.push_settings(config, &mut line)?;
     line.push(b'\n')?;
@@ -37,7 +36,7 @@ fn entry_line(
 /// The lines of these incumbents, oldest first.
 fn entry_lines(alloc: Global, space: &Space, entries: &[Entry]) -> Result<Vec<Vec<u8>>, Memory>
     requires { All (λ e. IsConfig space.now e.config) entries.now }
-    ensures { IfOk result (λ lines. flat_map (λ line. line.items) lines.items ≡ entry_texts space.now entries.now) }
+    ensures { IfOk result (λ lines. flat_map (λ line. line.items) lines.items ≡ Lines.entry_lines space.now entries.now) }
 {
     let mut lines = Vec::new(alloc);
     for e in entries {
@@ -63,7 +62,7 @@ pub(crate) fn all_lines<P: Search>(
 ) -> Result<Vec<Vec<u8>>, Memory>
     requires entries { All (λ e. IsConfig space.now e.config) (P.shown (P.rules_of search.now) (P.replies_of search.now)).entries }
     requires last { IsConfig space.now (P.shown (P.rules_of search.now) (P.replies_of search.now)).last.config }
-    ensures { IfOk result (λ lines. let view = P.shown (P.rules_of search.now) (P.replies_of search.now) in flat_map (λ line. line.items) lines.items ≡ all_texts space.now view.entries view.last) }
+    ensures { IfOk result (λ lines. let view = P.shown (P.rules_of search.now) (P.replies_of search.now) in flat_map (λ line. line.items) lines.items ≡ Lines.all_lines space.now view.entries view.last) }
 {
     let mut lines = entry_lines(alloc, space, search.entries())?;
     let (runs, sum) = (search.incumbent_runs(), search.incumbent_sum());
@@ -80,17 +79,17 @@ pub(crate) fn all_lines<P: Search>(
 }
 
 /// The line of a wrong word: its place, from 0.
-pub(crate) fn usage_line(alloc: Global, place: u32) -> Result<String, Memory>
-    ensures { IfOk result (λ line. string_bytes line ≡ usage_text place) }
+pub(crate) fn usage_line(alloc: Global, place: u32) -> Result<Vec<u8>, Memory>
+    ensures { IfOk result (λ line. line.items ≡ Lines.usage_line place) }
 {
-    Ok(format!(in alloc; "usage {place}\n")?)
+    Ok(format!(in alloc; "usage {place}\n")?.into_bytes())
 }
 
 /// The line of a failed read.
-pub(crate) fn read_fault_line(alloc: Global, name: &str) -> Result<String, Memory>
-    ensures { IfOk result (λ line. string_bytes line ≡ read_fault_text name.now) }
+pub(crate) fn read_fault_line(alloc: Global, name: &str) -> Result<Vec<u8>, Memory>
+    ensures { IfOk result (λ line. line.items ≡ Lines.read_fault_line name.now) }
 {
-    Ok(format!(in alloc; "readfault {name}\n")?)
+    Ok(format!(in alloc; "readfault {name}\n")?.into_bytes())
 }
 
 /// The line of a file's first fault: the file's name, the fault's line and the rule's name.
@@ -99,18 +98,18 @@ pub(crate) fn bad_file_line(
     name: &str,
     line: u32,
     what: What,
-) -> Result<String, Memory>
-    ensures { IfOk result (λ text. string_bytes text ≡ bad_file_text name.now line what) }
+) -> Result<Vec<u8>, Memory>
+    ensures { IfOk result (λ text. text.items ≡ Lines.bad_file_line name.now line what) }
 {
-    let rule = what_name(what);
-    Ok(format!(in alloc; "badfile {name} {line} {rule}\n")?)
+    let rule = rule_name(what);
+    Ok(format!(in alloc; "badfile {name} {line} {rule}\n")?.into_bytes())
 }
 
 /// The line of too few seats.
-pub(crate) fn seats_line(alloc: Global, asked: u32, given: u32) -> Result<String, Memory>
-    ensures { IfOk result (λ line. string_bytes line ≡ seats_text asked given) }
+pub(crate) fn seats_line(alloc: Global, asked: u32, given: u32) -> Result<Vec<u8>, Memory>
+    ensures { IfOk result (λ line. line.items ≡ Lines.seats_line asked given) }
 {
-    Ok(format!(in alloc; "seats {asked} {given}\n")?)
+    Ok(format!(in alloc; "seats {asked} {given}\n")?.into_bytes())
 }
 
 /// The line of a child that failed: its place and its settings.
@@ -121,10 +120,9 @@ pub(crate) fn child_fault_line(
     config: &Config,
 ) -> Result<Vec<u8>, Memory>
     requires { Belongs space.now.params config.now }
-    ensures { IfOk result (λ line. line.items ≡ child_fault_text space.now place config.now) }
+    ensures { IfOk result (λ line. line.items ≡ Lines.child_fault_line space.now place config.now) }
 {
-    let mut line = Vec::new(alloc);
-    line.extend_from_slice(format!(in alloc; "childfault {place} ")?.as_bytes())?;
+    let mut line = format!(in alloc; "childfault {place} ")?.into_bytes();
     space.push_settings(config, &mut line)?;
     line.push(b'\n')?;
     Ok(line)

@@ -2,11 +2,11 @@
 ghost use Rattle.std.specs.Prelude.{◌≡◌, ◌≤◌, IsTrue, IsSomeAnd, Some};
 ghost use Rattle.objective.specs.declared.Outcome.{Outcome};
 ghost use Rattle.outside.specs.declared.runs.Key.{Key};
-ghost use Rattle.ils_face.specs.Replies.{Fits, asking, up_to};
-ghost use Rattle.ils_face.specs.Shown.{IsAsk, IsEvaluation};
-ghost use Rattle.ils_face.specs.Tracing.{question_of, IsReplyBy, IsUnknown};
-ghost use Rattle.tuner.specs.Evaluating.{sums_of};
-ghost use Rattle.tuner.specs.Meeting.{bound_of, question, IsFailure, IfReply, OnEnd, OnAbort, IfFault};
+ghost use Rattle.ils_face.specs.Replies;
+ghost use Rattle.ils_face.specs.Steady.{IsAsk, IsEvaluation};
+ghost use Rattle.ils_face.specs.Traces.{question_of, IsReplyBy, IsUnknown};
+ghost use Rattle.tuner.specs.Evaluations.{sums_of};
+ghost use Rattle.tuner.specs.AskEnds.{bound_of, question, IsFailure, IfReply, OnEnd, OnAbort, IfFault};
 
 use crate::evaluation::{Evaluated, evaluate};
 use crate::problem::Problem;
@@ -40,7 +40,7 @@ pub(crate) enum Met {
 
 /// The reply that a total cost gives, up to a bound.
 fn reply_up_to(sum: Sum, bound: Option<Sum>) -> Reply
-    ensures { result ≡ up_to sum.0 (bound_of bound) }
+    ensures { result ≡ Replies.reply_up_to sum.0 (bound_of bound) }
 {
     match bound {
         Some(bound) => {
@@ -69,7 +69,7 @@ fn meet_question<R: Wait, S: Spawner>(
     requires evaluation { IsEvaluation problem.now.rules config.now n }
     ensures idle { IsTrue (S.idle spawner.new) }
     ensures counts { S.faults spawner.old ≤ S.faults spawner.new }
-    ensures fits { IfReply result (λ r. Fits (asking config.now n (bound_of bound)) r) }
+    ensures fits { IfReply result (λ r. Replies.Fits (Replies.ask_of config.now n (bound_of bound)) r) }
     ensures reply { IfReply result (λ r. (outcome : Key → Outcome) → S.truth ≡ Some outcome → IsReplyBy (sums_of problem.now outcome) r (question config.now n bound)) }
     ensures aborted { OnAbort result ((outcome : Key → Outcome) → S.truth ≡ Some outcome → IsUnknown (sums_of problem.now outcome) (question config.now n bound)) }
     ensures failed { IfFault result (λ θ place. IsFailure problem.now (S.faults spawner.old) (S.faults spawner.new) (S.failed_run spawner.new) θ place) }
@@ -98,7 +98,7 @@ pub(crate) fn meet<R: Wait, S: Spawner>(
     requires ask { IsAsk problem.now.rules ask.now }
     ensures idle { IsTrue (S.idle spawner.new) }
     ensures counts { S.faults spawner.old ≤ S.faults spawner.new }
-    ensures fits { IfReply result (λ r. Fits ask.now r) }
+    ensures fits { IfReply result (λ r. Replies.Fits ask.now r) }
     ensures reply { IfReply result (λ r. (outcome : Key → Outcome) → S.truth ≡ Some outcome → IsSomeAnd (question_of ask.now) (IsReplyBy (sums_of problem.now outcome) r)) }
     ensures end { OnEnd result (ask.now ≡ Ask.End) }
     ensures aborted { OnAbort result ((outcome : Key → Outcome) → S.truth ≡ Some outcome → IsSomeAnd (question_of ask.now) (IsUnknown (sums_of problem.now outcome))) }

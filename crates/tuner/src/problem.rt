@@ -1,8 +1,9 @@
 //! What is tuned, and its runs.
 ghost use Rattle.std.specs.Prelude.{◌≡◌, ◌≤◌, IfOk, ◌<◌, length, map};
+ghost use Rattle.objective.specs.Limits.{max_workers};
 ghost use Rattle.param_space.specs.Space.{Belongs, defaults};
-ghost use Rattle.param_space.specs.Settings.{active_values as values_of};
-ghost use Rattle.tuner.specs.Problem.{run_at as run_of, key_at as key_of, setting_from};
+ghost use Rattle.param_space.specs.Settings;
+ghost use Rattle.tuner.specs.ProblemRuns;
 
 use ils_face::Rules;
 use instance_pairs::Pairs;
@@ -38,7 +39,7 @@ impl Model for Problem {
 /// The settings of a configuration: each active parameter's name with its value.
 fn settings_of(alloc: Global, space: &Space, config: &Config) -> Result<Vec<Setting>, Memory>
     requires { Belongs space.now.params config.now }
-    ensures { IfOk result (λ v. v.items ≡ map setting_from (values_of space.now config.now)) }
+    ensures { IfOk result (λ v. v.items ≡ map ProblemRuns.setting_from (Settings.active_values space.now config.now)) }
 {
     let active = space.active_values(config)?;
     let mut settings = Vec::new(alloc);
@@ -59,11 +60,11 @@ impl Problem {
         self.approach
     }
 
-    /// The seats that are asked for: 1 to 64.
+    /// The seats that are asked for.
     pub(crate) fn workers(&self) -> u32
         ensures value { result ≡ self.now.rules.workers }
         ensures some { 1 ≤ result }
-        ensures few { result ≤ 64 }
+        ensures few { result ≤ max_workers }
     {
         self.rules.workers
     }
@@ -73,7 +74,7 @@ impl Problem {
         requires belongs { Belongs self.now.rules.space.params config.now }
         requires first { 1 ≤ place }
         requires last { place ≤ self.now.rules.max_runs }
-        ensures { IfOk result (λ k. k ≡ key_of self.now config.now place) }
+        ensures { IfOk result (λ k. k ≡ ProblemRuns.key_at self.now config.now place) }
     {
         let settings = settings_of(alloc, &self.rules.space, config)?;
         let pair = self.pairs.pair(place);
@@ -90,7 +91,7 @@ impl Problem {
         requires belongs { Belongs self.now.rules.space.params config.now }
         requires first { 1 ≤ place }
         requires last { place ≤ self.now.rules.max_runs }
-        ensures { IfOk result (λ r. r ≡ run_of self.now config.now place) }
+        ensures { IfOk result (λ r. r ≡ ProblemRuns.run_at self.now config.now place) }
     {
         Ok(Run {
             key: self.key_at(alloc, config, place)?,

@@ -5,7 +5,7 @@ ghost use Rattle.objective.specs.Costs.{seen, IsWithin};
 ghost use Rattle.objective.specs.declared.Outcome.{Outcome};
 ghost use Rattle.outside.specs.Counts.{Rose};
 ghost use Rattle.outside.specs.declared.runs.Key.{Key};
-ghost use Rattle.tuner.specs.Running.{IfAnswer, OnFailed};
+ghost use Rattle.tuner.specs.RunEnds.{IfAnswer, OnFailed};
 
 use objective::Answer;
 use outside::{Fault, Poll, Program, Run, Spawner, answer_of, words_of};

@@ -1,11 +1,12 @@
 //! The lines that end a call.
-ghost use Rattle.std.specs.Prelude.{◌≡◌, ◌≤◌};
+ghost use Rattle.std.specs.Prelude.{◌≡◌, ◌≤◌, ℕ, List, IfOk};
 ghost use Rattle.std.specs.List.{flat_map};
-ghost use Rattle.tuner.specs.Promises.{taking_by, Said};
+ghost use Rattle.tuner.specs.Lines.{no_memory_line};
+ghost use Rattle.tuner.specs.Promises.{taking_by, Said, Reported};
 
 use crate::status::Status;
-use crate::writing::{Unwritten, write_whole};
-use outside::Sink;
+use objective::Memory;
+use outside::{Sink, Unwritten, write_whole};
 
 /// Writes the last line of a call that is to end so. The answer is how it does end.
 pub(crate) fn say<O: Sink>(out: &mut O, line: &[u8], end: Status) -> Status
@@ -15,6 +16,24 @@ pub(crate) fn say<O: Sink>(out: &mut O, line: &[u8], end: Status) -> Status
         Ok(()) => end,
         Err(Unwritten::Fault) => Status::WriteFault,
         Err(Unwritten::Memory) => Status::NoMemory,
+    }
+}
+
+/// Writes that there is no memory left.
+pub(crate) fn say_no_memory<O: Sink>(out: &mut O) -> Status
+    ensures { Said (taking_by O.taken O.faults O.empties out.old out.new) Status.NoMemory result no_memory_line }
+{
+    say(out, b"nomemory\n", Status::NoMemory)
+}
+
+/// Writes the last line of a call that is to end so, or that there was no memory to make it.
+/// The answer is how it does end.
+pub(crate) fn say_made<O: Sink>(out: &mut O, line: Result<Vec<u8>, Memory>, end: Status) -> Status
+    ensures { (text : List ℕ) → IfOk line (λ l. l.items ≡ text) → Reported (taking_by O.taken O.faults O.empties out.old out.new) result end text }
+{
+    match line {
+        Ok(line) => say(out, line.as_slice(), end),
+        Err(_) => say_no_memory(out),
     }
 }
 

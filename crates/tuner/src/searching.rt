@@ -3,10 +3,10 @@ ghost use Rattle.std.specs.Prelude.{◌≡◌, ◌≤◌, [], IsTrue, Some};
 ghost use Rattle.objective.specs.declared.Outcome.{Outcome};
 ghost use Rattle.outside.specs.declared.runs.Key.{Key};
 ghost use Rattle.uncapped.specs.Procedure.{Aborted};
-ghost use Rattle.ils_face.specs.Tracing.{IsFinal};
-ghost use Rattle.tuner.specs.Meeting.{IsFailure};
-ghost use Rattle.tuner.specs.Problem.{table_of};
-ghost use Rattle.tuner.specs.Searched.{IsSound, OnEnded, OnAborted, IfFailed};
+ghost use Rattle.ils_face.specs.Traces.{IsFinal};
+ghost use Rattle.tuner.specs.AskEnds.{IsFailure};
+ghost use Rattle.tuner.specs.ProblemRuns.{table_of};
+ghost use Rattle.tuner.specs.SearchEnds.{IsSound, OnEnded, OnAborted, IfFailed};
 
 use crate::meeting::{Met, meet};
 use crate::problem::Problem;

@@ -1,6 +1,6 @@
 //! How a tuning ends.
 ghost use Rattle.std.specs.Prelude.{◌≡◌};
-ghost use Rattle.tuner.specs.Statuses.{code_of};
+ghost use Rattle.tuner.specs.ExitCodes.{code_of};
 
 use instance_pairs::InstanceWhat;
 use param_files::ParamWhat;

@@ -1,5 +1,5 @@
 //! The outcome table of a problem.
-ghost use Rattle.tuner.specs.Problem.{table_of};
+ghost use Rattle.tuner.specs.ProblemRuns.{table_of};
 
 use crate::problem::Problem;
 use objective::World;

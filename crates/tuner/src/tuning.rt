@@ -1,18 +1,18 @@
 //! The top call.
-ghost use Rattle.std.specs.Prelude.{◌≡◌, ◌≤◌, ◌<◌, ◌⊎◌, ℕ, IsTrue, All, List, Option, Some, IfSome, IsSome, length};
-ghost use Rattle.objective.specs.declared.Outcome.{Outcome};
-ghost use Rattle.outside.specs.Counts.{Rose};
-ghost use Rattle.uncapped.specs.Procedure.{Finished};
-ghost use Rattle.tuner.specs.Problem.{Problem as Stated, problem_of, Reads, uncapped_run};
-ghost use Rattle.tuner.specs.Promises.{taking_by, call_by, Ending, HasCause, Headline, IsComplete, RefusesFaulty, RefusesFocused, RefusesMisused, RefusesUnseated, ReportsMisuse, ReportsRefusal, Reported};
+ghost use Rattle.std.specs.Prelude.{◌≡◌, ℕ, IsTrue, All, List, Ok, length};
+ghost use Rattle.scenario_files.specs.Ranges.{AreWordsWithin};
+ghost use Rattle.scenario_files.specs.Words.{words_read};
+ghost use Rattle.tuner.specs.Lines;
+ghost use Rattle.tuner.specs.ProblemRuns.{table_of};
+ghost use Rattle.tuner.specs.Promises.{taking_by, call_by, running_by, Call, States, Ending, HasCause, Headline, IsComplete, RefusesFaulty, RefusesFocused, RefusesMisused, RefusesUnseated, ReportsMisuse, ReportsRefusal, Reported};
 ghost use Rattle.tuner.specs.Seats.{spawner_of, first_count, first_run};
-ghost use Rattle.tuner.specs.Lines.{seats_line as seats_text};
 
 use crate::finishing::run_search;
 use crate::lines::{bad_file_line, read_fault_line, seats_line, usage_line};
+use crate::problem::Problem;
 use crate::reading::problems::read_problem;
 use crate::reading::refusal::Refusal;
-use crate::saying::say;
+use crate::saying::{say, say_made, say_no_memory};
 use crate::seat::Seat;
 use crate::status::Status;
 use crate::truth::Truth;
@@ -21,7 +21,7 @@ use ils_frame::Ils;
 use objective::World;
 use outside::{Files, Sink, Spawner};
 use plain_text::Text;
-use scenario_files::{Approach, WordFault, read_words};
+use scenario_files::{Approach, WordFault, Words, read_words};
 use std::alloc::Global;
 use std::sync::Wait;
 
@@ -30,11 +30,10 @@ fn refuse_words<O: Sink>(alloc: Global, fault: WordFault, out: &mut O) -> Status
     ensures { ReportsMisuse fault (taking_by O.taken O.faults O.empties out.old out.new) result }
 {
     match fault {
-        WordFault::At { place } => match usage_line(alloc, place) {
-            Ok(line) => say(out, line.as_bytes(), Status::Usage { place }),
-            Err(_) => say(out, b"nomemory\n", Status::NoMemory),
-        },
-        WordFault::Memory => say(out, b"nomemory\n", Status::NoMemory),
+        WordFault::At { place } => {
+            say_made(out, usage_line(alloc, place), Status::Usage { place })
+        }
+        WordFault::Memory => say_no_memory(out),
     }
 }
 
@@ -48,30 +47,75 @@ fn refuse_files<O: Sink>(alloc: Global, refusal: Refusal, out: &mut O) -> Status
             name,
             line,
             what,
-        } => match bad_file_line(alloc, name.as_str(), line, what) {
-            Ok(text) => say(out, text.as_bytes(), Status::BadFile { kind, line, what }),
-            Err(_) => say(out, b"nomemory\n", Status::NoMemory),
-        },
-        Refusal::ReadFault { kind, name } => match read_fault_line(alloc, name.as_str()) {
-            Ok(line) => say(out, line.as_bytes(), Status::ReadFault { kind }),
-            Err(_) => say(out, b"nomemory\n", Status::NoMemory),
-        },
-        Refusal::Memory => say(out, b"nomemory\n", Status::NoMemory),
+        } => {
+            let text = bad_file_line(alloc, name.as_str(), line, what);
+            say_made(out, text, Status::BadFile { kind, line, what })
+        }
+        Refusal::ReadFault { kind, name } => {
+            let line = read_fault_line(alloc, name.as_str());
+            say_made(out, line, Status::ReadFault { kind })
+        }
+        Refusal::Memory => say_no_memory(out),
     }
 }
 
 /// Prints that there are fewer seats than are asked for.
 fn refuse_seats<O: Sink>(alloc: Global, asked: u32, given: u32, out: &mut O) -> Status
-    ensures { Reported (taking_by O.taken O.faults O.empties out.old out.new) result (Status.TooFewSeats asked given) (seats_text asked given) }
+    ensures { Reported (taking_by O.taken O.faults O.empties out.old out.new) result (Status.TooFewSeats asked given) (Lines.seats_line asked given) }
 {
-    match seats_line(alloc, asked, given) {
-        Ok(line) => say(out, line.as_bytes(), Status::TooFewSeats { asked, given }),
-        Err(_) => say(out, b"nomemory\n", Status::NoMemory),
+    let line = seats_line(alloc, asked, given);
+    say_made(out, line, Status::TooFewSeats { asked, given })
+}
+
+/// Runs the search of a problem on the first seat, where there are as many seats as it asks
+/// for and its approach is built. It may wait.
+fn run_problem<R: Wait, O: Sink, S: Spawner>(
+    rt: &R,
+    alloc: Global,
+    problem: &Problem,
+    out: &mut O,
+    seats: &mut [Seat<S>],
+) -> Status
+    requires { All (λ seat. IsTrue (S.idle (spawner_of seat))) seats.old }
+    ensures ending { (call : Call) → call.seats ≡ length seats.old → call.running ≡ running_by S.truth (table_of S.truth) S.faults S.failed_run seats.old seats.new → States call problem.now → Ending call (taking_by O.taken O.faults O.empties out.old out.new) result }
+    ensures idle { All (λ seat. IsTrue (S.idle (spawner_of seat))) seats.new }
+{
+    let workers = problem.workers();
+    if seats.len() < workers as usize {
+        return refuse_seats(alloc, workers, seats.len() as u32, out);
+    }
+    match problem.approach() {
+        Approach::Focused => say(out, b"unbuilt\n", Status::Unbuilt),
+        Approach::Basic => {
+            let seat = &mut seats[0];
+            seat.clear();
+            run_search::<R, Ils<Basic>, O, S>(rt, alloc, problem, out, &mut seat.spawner)
+        }
     }
 }
 
-/// The call but for its log: its words and files are read, and the search is run on the first
-/// seat. It may wait.
+/// The call of words that have a reading, but for its log: the files are read, and the search
+/// is run on the first seat. It may wait.
+fn conduct_given<R: Wait, F: Files, O: Sink, S: Spawner>(
+    rt: &R,
+    alloc: Global,
+    given: Words,
+    files: &mut F,
+    out: &mut O,
+    seats: &mut [Seat<S>],
+) -> Status
+    requires words { AreWordsWithin given }
+    requires idle { All (λ seat. IsTrue (S.idle (spawner_of seat))) seats.old }
+    ensures ending { (words : List (List ℕ)) → words_read words ≡ Ok given → Ending (call_by words F.contents F.faults files.old files.new S.truth ⟦<Truth<S> as World>⟧.outcome S.faults S.failed_run seats.old seats.new) (taking_by O.taken O.faults O.empties out.old out.new) result }
+    ensures idle { All (λ seat. IsTrue (S.idle (spawner_of seat))) seats.new }
+{
+    match read_problem(alloc, files, given) {
+        Ok(problem) => run_problem(rt, alloc, &problem, out, seats),
+        Err(refusal) => refuse_files(alloc, refusal, out),
+    }
+}
+
+/// The call but for its log. It may wait.
 fn conduct<R: Wait, F: Files, O: Sink, S: Spawner>(
     rt: &R,
     alloc: Global,
@@ -84,25 +128,9 @@ fn conduct<R: Wait, F: Files, O: Sink, S: Spawner>(
     ensures ending { Ending (call_by words.now F.contents F.faults files.old files.new S.truth ⟦<Truth<S> as World>⟧.outcome S.faults S.failed_run seats.old seats.new) (taking_by O.taken O.faults O.empties out.old out.new) result }
     ensures idle { All (λ seat. IsTrue (S.idle (spawner_of seat))) seats.new }
 {
-    let given = match read_words(alloc, words) {
-        Ok(given) => given,
-        Err(fault) => return refuse_words(alloc, fault, out),
-    };
-    let problem = match read_problem(alloc, files, given) {
-        Ok(problem) => problem,
-        Err(refusal) => return refuse_files(alloc, refusal, out),
-    };
-    let workers = problem.workers();
-    if seats.len() < workers as usize {
-        return refuse_seats(alloc, workers, seats.len() as u32, out);
-    }
-    match problem.approach() {
-        Approach::Focused => say(out, b"unbuilt\n", Status::Unbuilt),
-        Approach::Basic => {
-            let seat = &mut seats[0];
-            seat.clear();
-            run_search::<R, Ils<Basic>, O, S>(rt, alloc, &problem, out, &mut seat.spawner)
-        }
+    match read_words(alloc, words) {
+        Ok(given) => conduct_given(rt, alloc, given, files, out, seats),
+        Err(fault) => refuse_words(alloc, fault, out),
     }
 }
 

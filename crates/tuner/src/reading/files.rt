@@ -1,18 +1,22 @@
 //! The three files of a problem: each is read, and has a reading or a first fault.
 ghost use Rattle.std.specs.Prelude.{◌≡◌, ◌≤◌, IfOk, IfErr, IfSome, length};
-ghost use Rattle.scenario_files.specs.Limits.{AreWithin, AreWordsWithin, IsWithin};
-ghost use Rattle.scenario_files.specs.Reading.{scenario_read, IsReadingFault};
-ghost use Rattle.tuner.specs.Problem.{present, filled_by, scenario_by, space_in, instances_in, Reads};
+ghost use Rattle.plain_text.specs.Faults.{IsFound};
+ghost use Rattle.scenario_files.specs.Faults.{fault_of};
+ghost use Rattle.scenario_files.specs.Ranges.{AreWithin, IsWithin};
+ghost use Rattle.instance_pairs.specs.Limits.{max_instances};
+ghost use Rattle.tuner.specs.Readings.{file_bytes, scenario_reading, space_reading, instances_reading, Reads};
 ghost use Rattle.tuner.specs.Refusals.{IsCause, IsFile};
+ghost use Rattle.tuner.specs.ScenarioProblem.{whole_scenario};
 
-use crate::reading::refusal::Refusal;
-use crate::status::{FileKind, What};
-use instance_pairs::{Instance, InstanceFault, read_instances};
+use crate::reading::faults::{instances_fault, params_fault, scenario_fault};
+use crate::reading::refusal::{Refusal, refusal_of};
+use crate::status::FileKind;
+use instance_pairs::{Instance, read_instances};
 use outside::{Fault, Files};
-use param_files::{ParamFault, read_params};
+use param_files::read_params;
 use param_space::Space;
 use plain_text::Text;
-use scenario_files::{Draft, Scenario, ScenarioFault, Words, fill, read_scenario};
+use scenario_files::{Draft, Scenario, ScenarioFault, fill, read_scenario};
 use std::alloc::Global;
 
 /// Reads a file.
@@ -24,8 +28,8 @@ fn read_bytes<F: Files>(
 ) -> Result<Vec<u8>, Refusal>
     ensures same { F.contents files.new ≡ F.contents files.old }
     ensures counts { F.faults files.old ≤ F.faults files.new }
-    ensures read { IfOk result (λ v. IfSome (F.contents files.old) (λ contents. present kind (contents name.now) ≡ Reads v.items)) }
-    ensures refused { IfErr result (λ e. IsCause e (F.contents files.old) (λ contents. present kind (contents name.now)) (IsFile kind name.now) (F.faults files.old) (F.faults files.new)) }
+    ensures read { IfOk result (λ v. IfSome (F.contents files.old) (λ contents. file_bytes kind (contents name.now) ≡ Reads v.items)) }
+    ensures refused { IfErr result (λ e. IsCause e (F.contents files.old) (λ contents. file_bytes kind (contents name.now)) (IsFile kind name.now) (F.faults files.old) (F.faults files.new)) }
 {
     match files.read(name) {
         Ok(bytes) => Ok(bytes),
@@ -40,38 +44,35 @@ fn read_bytes<F: Files>(
 /// The scenario of a file's text and of what the words give.
 fn read_filled(alloc: Global, text: &[u8], words: Draft) -> Result<Scenario, ScenarioFault>
     requires { AreWithin words }
-    ensures value { IfOk result (λ s. filled_by words (scenario_read text.now) ≡ Ok s) }
-    ensures fault { IfErr result (λ e. IsReadingFault e (filled_by words (scenario_read text.now))) }
+    ensures value { IfOk result (λ s. whole_scenario words text.now ≡ Ok s) }
+    ensures fault { IfErr result (λ e. IsFound (fault_of e) (whole_scenario words text.now)) }
     ensures limits { IfOk result IsWithin }
 {
     let file = read_scenario(alloc, text)?;
     fill(alloc, file, words)
 }
 
-/// Reads the scenario file that words name, and fills in what they give.
+/// Reads the scenario file, and fills in what the words give.
 pub(crate) fn read_scenario_file<F: Files>(
     alloc: Global,
     files: &mut F,
-    words: Words,
+    name: &str,
+    words: Draft,
 ) -> Result<Scenario, Refusal>
-    requires { AreWordsWithin words }
+    requires { AreWithin words }
     ensures same { F.contents files.new ≡ F.contents files.old }
     ensures counts { F.faults files.old ≤ F.faults files.new }
-    ensures read { IfOk result (λ s. IfSome (F.contents files.old) (λ contents. scenario_by contents words ≡ Reads s)) }
-    ensures refused { IfErr result (λ e. IsCause e (F.contents files.old) (λ contents. scenario_by contents words) (IsFile FileKind.Scenario words.scenario_file) (F.faults files.old) (F.faults files.new)) }
+    ensures read { IfOk result (λ s. IfSome (F.contents files.old) (λ contents. scenario_reading contents name.now words ≡ Reads s)) }
+    ensures refused { IfErr result (λ e. IsCause e (F.contents files.old) (λ contents. scenario_reading contents name.now words) (IsFile FileKind.Scenario name.now) (F.faults files.old) (F.faults files.new)) }
     ensures limits { IfOk result IsWithin }
 {
-    let name = words.scenario_file;
-    let bytes = read_bytes(alloc, files, FileKind::Scenario, name.as_str())?;
-    match read_filled(alloc, bytes.as_slice(), words.draft) {
+    let bytes = read_bytes(alloc, files, FileKind::Scenario, name)?;
+    match read_filled(alloc, bytes.as_slice(), words) {
         Ok(scenario) => Ok(scenario),
-        Err(ScenarioFault::At { line, what }) => Err(Refusal::BadFile {
-            kind: FileKind::Scenario,
-            name,
-            line,
-            what: What::Scenario(what),
-        }),
-        Err(ScenarioFault::Memory) => Err(Refusal::Memory),
+        Err(fault) => {
+            let fault = scenario_fault(fault);
+            Err(refusal_of(alloc, FileKind::Scenario, name, fault))
+        }
     }
 }
 
@@ -83,19 +84,16 @@ pub(crate) fn read_space<F: Files>(
 ) -> Result<Space, Refusal>
     ensures same { F.contents files.new ≡ F.contents files.old }
     ensures counts { F.faults files.old ≤ F.faults files.new }
-    ensures read { IfOk result (λ s. IfSome (F.contents files.old) (λ contents. space_in contents name.now ≡ Reads s)) }
-    ensures refused { IfErr result (λ e. IsCause e (F.contents files.old) (λ contents. space_in contents name.now) (IsFile FileKind.Params name.now) (F.faults files.old) (F.faults files.new)) }
+    ensures read { IfOk result (λ s. IfSome (F.contents files.old) (λ contents. space_reading contents name.now ≡ Reads s)) }
+    ensures refused { IfErr result (λ e. IsCause e (F.contents files.old) (λ contents. space_reading contents name.now) (IsFile FileKind.Params name.now) (F.faults files.old) (F.faults files.new)) }
 {
     let bytes = read_bytes(alloc, files, FileKind::Params, name)?;
     match read_params(alloc, bytes.as_slice()) {
         Ok(space) => Ok(space),
-        Err(ParamFault::At { line, what }) => Err(Refusal::BadFile {
-            kind: FileKind::Params,
-            name: Text::of(alloc, name)?,
-            line,
-            what: What::Params(what),
-        }),
-        Err(ParamFault::Memory) => Err(Refusal::Memory),
+        Err(fault) => {
+            let fault = params_fault(fault);
+            Err(refusal_of(alloc, FileKind::Params, name, fault))
+        }
     }
 }
 
@@ -107,19 +105,16 @@ pub(crate) fn read_instance_file<F: Files>(
 ) -> Result<Vec<Instance>, Refusal>
     ensures same { F.contents files.new ≡ F.contents files.old }
     ensures counts { F.faults files.old ≤ F.faults files.new }
-    ensures read { IfOk result (λ v. IfSome (F.contents files.old) (λ contents. instances_in contents name.now ≡ Reads v.items)) }
-    ensures count { IfOk result (λ v. (1 ≤ length v.items) × (length v.items ≤ 100000)) }
-    ensures refused { IfErr result (λ e. IsCause e (F.contents files.old) (λ contents. instances_in contents name.now) (IsFile FileKind.Instances name.now) (F.faults files.old) (F.faults files.new)) }
+    ensures read { IfOk result (λ v. IfSome (F.contents files.old) (λ contents. instances_reading contents name.now ≡ Reads v.items)) }
+    ensures count { IfOk result (λ v. (1 ≤ length v.items) × (length v.items ≤ max_instances)) }
+    ensures refused { IfErr result (λ e. IsCause e (F.contents files.old) (λ contents. instances_reading contents name.now) (IsFile FileKind.Instances name.now) (F.faults files.old) (F.faults files.new)) }
 {
     let bytes = read_bytes(alloc, files, FileKind::Instances, name)?;
     match read_instances(alloc, bytes.as_slice()) {
         Ok(instances) => Ok(instances),
-        Err(InstanceFault::At { line, what }) => Err(Refusal::BadFile {
-            kind: FileKind::Instances,
-            name: Text::of(alloc, name)?,
-            line,
-            what: What::Instances(what),
-        }),
-        Err(InstanceFault::Memory) => Err(Refusal::Memory),
+        Err(fault) => {
+            let fault = instances_fault(fault);
+            Err(refusal_of(alloc, FileKind::Instances, name, fault))
+        }
     }
 }

@@ -1,8 +1,10 @@
 //! The problem that words and files state.
 ghost use Rattle.std.specs.Prelude.{◌≡◌, ◌≤◌, length, IfOk, IfErr, IfSome};
-ghost use Rattle.outside.specs.Counts.{Rose};
-ghost use Rattle.scenario_files.specs.Limits.{AreWordsWithin, IsWithin};
-ghost use Rattle.tuner.specs.Problem.{factor_of as stated_factor, pairs_from as stated_pairs, problem_by, problem_in, problem_from as stated_problem, rules_from as stated_rules, Reads};
+ghost use Rattle.objective.specs.Limits.{max_runs};
+ghost use Rattle.scenario_files.specs.Ranges.{AreWordsWithin, IsWithin};
+ghost use Rattle.instance_pairs.specs.Limits.{max_instances};
+ghost use Rattle.tuner.specs.ScenarioProblem;
+ghost use Rattle.tuner.specs.Readings.{problem_by, problem_in, Reads};
 ghost use Rattle.tuner.specs.Refusals.{IsCause, IsNext, IsNextIn};
 
 use crate::problem::Problem;
@@ -18,7 +20,7 @@ use std::alloc::Global;
 
 /// How many cutoffs a run without a solution costs.
 fn factor_of(overall: Overall) -> Factor
-    ensures { result ≡ stated_factor overall }
+    ensures { result ≡ ScenarioProblem.factor_of overall }
 {
     match overall {
         Overall::Mean => Factor::One,
@@ -28,16 +30,16 @@ fn factor_of(overall: Overall) -> Factor
 }
 
 /// The rules of the search of a scenario, with so many runs of a configuration at most.
-fn rules_from(scenario: &Scenario, space: Space, max_runs: u32) -> Rules
+fn rules_from(scenario: &Scenario, space: Space, runs: u32) -> Rules
     requires limits { IsWithin scenario.now }
-    requires one { 1 ≤ max_runs }
-    requires most { max_runs ≤ 10_000 }
-    ensures { result ≡ stated_rules scenario.now space max_runs }
+    requires one { 1 ≤ runs }
+    requires most { runs ≤ max_runs }
+    ensures { result ≡ ScenarioProblem.rules_from scenario.now space runs }
 {
     Rules {
         space,
         seed: scenario.num_run,
-        max_runs,
+        max_runs: runs,
         budget: scenario.max_comparisons,
         initial: scenario.r,
         strength: scenario.s,
@@ -55,8 +57,8 @@ fn rules_from(scenario: &Scenario, space: Space, max_runs: u32) -> Rules
 fn pairs_from(alloc: Global, scenario: &Scenario, instances: Vec<Instance>) -> Result<Pairs, Memory>
     requires limits { IsWithin scenario.now }
     requires some { 1 ≤ length instances.items }
-    requires few { length instances.items ≤ 100_000 }
-    ensures { IfOk result (λ p. p ≡ stated_pairs scenario.now instances.items) }
+    requires few { length instances.items ≤ max_instances }
+    ensures { IfOk result (λ p. p ≡ ScenarioProblem.pairs_from scenario.now instances.items) }
 {
     Pairs::new(
         alloc,
@@ -77,8 +79,8 @@ fn problem_from(
 ) -> Result<Problem, Memory>
     requires limits { IsWithin scenario.now }
     requires some { 1 ≤ length instances.items }
-    requires few { length instances.items ≤ 100_000 }
-    ensures { IfOk result (λ p. p ≡ stated_problem scenario.now space instances.items) }
+    requires few { length instances.items ≤ max_instances }
+    ensures { IfOk result (λ p. p ≡ ScenarioProblem.problem_from scenario.now space instances.items) }
 {
     let pairs = pairs_from(alloc, scenario, instances)?;
     let program = read_program(
@@ -87,11 +89,11 @@ fn problem_from(
         scenario.execdir.as_str(),
         scenario.cutoff_length,
     )?;
-    let max_runs = pairs.max_runs();
+    let runs = pairs.max_runs();
     Ok(Problem {
         program,
         approach: scenario.approach,
-        rules: rules_from(scenario, space, max_runs),
+        rules: rules_from(scenario, space, runs),
         pairs,
     })
 }
@@ -127,6 +129,10 @@ pub(crate) fn read_problem<F: Files>(
     ensures read { IfOk result (λ p. IfSome (F.contents files.old) (λ contents. problem_by contents words ≡ Reads p)) }
     ensures refused { IfErr result (λ e. IsCause e (F.contents files.old) (λ contents. problem_by contents words) (IsNext words (F.contents files.old)) (F.faults files.old) (F.faults files.new)) }
 {
-    let scenario = read_scenario_file(alloc, files, words)?;
+    let Words {
+        scenario_file,
+        draft,
+    } = words;
+    let scenario = read_scenario_file(alloc, files, scenario_file.as_str(), draft)?;
     read_named(alloc, files, &scenario)
 }

@@ -1,10 +1,13 @@
 //! Why files make no problem.
 ghost use Rattle.std.specs.Prelude.{◌≡◌};
-ghost use Rattle.tuner.specs.declared.reading.refusal.Refusal.TheVariants.{Memory as NoMemory};
+ghost use Rattle.tuner.specs.Refusals.{IsRefusedFor};
+ghost use Rattle.tuner.specs.declared.reading.refusal.Refusal.TheVariants;
 
+use crate::reading::faults::FileFault;
 use crate::status::{FileKind, What};
 use objective::Memory;
 use plain_text::Text;
+use std::alloc::Global;
 
 /// Why files make no problem.
 #[derive(Drop)]
@@ -32,9 +35,32 @@ pub(crate) enum Refusal {
 }
 
 impl From<Memory> for Refusal {
-    ghost from_gives = { λ _ refusal. refusal ≡ NoMemory };
+    ghost from_gives = { λ _ refusal. refusal ≡ TheVariants.Memory };
 
     fn from(_e: Memory) -> Refusal {
         Refusal::Memory
+    }
+}
+
+/// The refusal of a file for its first fault, or for want of memory.
+pub(crate) fn refusal_of(
+    alloc: Global,
+    kind: FileKind,
+    name: &str,
+    fault: Option<FileFault>,
+) -> Refusal
+    ensures { IsRefusedFor result kind name.now fault }
+{
+    let Some(FileFault { line, what }) = fault else {
+        return Refusal::Memory;
+    };
+    match Text::of(alloc, name) {
+        Ok(name) => Refusal::BadFile {
+            kind,
+            name,
+            line,
+            what,
+        },
+        Err(_) => Refusal::Memory,
     }
 }

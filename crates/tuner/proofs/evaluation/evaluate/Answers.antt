@@ -1,5 +1,5 @@
 use Rattle.std.proofs.Common.{◌≤◌, suc, Some, arith, add-one}
-use Rattle.tuner.specs.Problem.{table_of}
+use Rattle.tuner.specs.ProblemRuns.{table_of}
 use Rattle.tuner.proofs.Costs.{total_cost-missing}
 use Rattle.tuner.proofs.evaluation.evaluate.Goals as goal
 

@@ -1,7 +1,8 @@
 use Rattle.std.proofs.Common.{◌≡◌, ◌≤◌, ◌*◌, true, Some}
+use Rattle.objective.specs.Limits.{max_cutoff}
 use Rattle.objective.specs.declared.Outcome.{Outcome}
 use Rattle.outside.specs.declared.runs.Key.{Key}
-use Rattle.tuner.specs.Evaluating.{sums_of}
+use Rattle.tuner.specs.Evaluations.{sums_of}
 use Rattle.tuner.proofs.evaluation.evaluate.Given as goal
 
 -- the places so far cost this much
@@ -9,6 +10,6 @@ abbrev pub invariant-loop-done : goal.invariant-loop-done
 invariant-loop-done g l = record {
   idle : g.S.Spawner.idle l.spawner ≡ true;
   counts : g.S.Spawner.faults l.initial.spawner ≤ g.S.Spawner.faults l.spawner;
-  bound : l.sum.0 ≤ l.done * 1000000000000000;
+  bound : l.sum.0 ≤ l.done * (1000 * max_cutoff);
   sum : (outcome : Key → Outcome) → g.S.Spawner.truth ≡ Some outcome → sums_of l.problem outcome l.config l.done ≡ Some l.sum.0;
 }

@@ -1,12 +1,13 @@
 use Rattle.std.proofs.Common.{◌∙◌, ap}
+use Rattle.std.proofs.lemmas.Result.{IfOk-weaker}
 use Rattle.tuner.specs.Lines.{child_fault_line}
-use Rattle.tuner.proofs.Sayings.{said_as}
 use Rattle.tuner.proofs.finishing.report_failure.Goals as goal
 
-pub returns-in-Ok : goal.returns-in-Ok
-returns-in-Ok g c =
-    said_as _ _ _ _ _
-    (c.as_slice.ensures.value ∙ c.in-Ok.ensures
-    ∙ ap (λ i. child_fault_line i.rules.space c.args.place c.args.config.now) c.problem-inside.view_is
+pub returns : goal.returns
+returns g c =
+    c.say_made.ensures _
+    (IfOk-weaker c.child_fault_line-line.result _ _
+    (λ line e.
+    e ∙ ap (λ i. child_fault_line i.rules.space c.args.place c.args.config.now) c.problem-inside.view_is
     ∙ ap (λ p. child_fault_line p.rules.space c.args.place c.args.config.now) c.problem.view_is)
-    c.say.ensures
+    c.child_fault_line-line.ensures)

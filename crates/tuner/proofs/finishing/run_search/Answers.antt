@@ -1,4 +1,4 @@
-use Rattle.tuner.proofs.RunsEnd.{run_finished, run_aborted, run_failed}
+use Rattle.tuner.proofs.RunEndings.{run_finished, run_aborted, run_failed}
 use Rattle.tuner.proofs.finishing.run_search.Goals as goal
 
 pub returns-in-Ended-clause-ending : goal.returns-in-Ended-clause-ending
@@ -7,7 +7,7 @@ returns-in-Ended-clause-ending g c =
 
 pub returns-in-Aborted-clause-ending : goal.returns-in-Aborted-clause-ending
 returns-in-Aborted-clause-ending g c =
-    run_aborted _ _ _ _ _ _ _ g.P.Search.plain (record { same = c.requires.procedure }) c.in-Aborted.ensures.aborted c.say-in-Aborted.ensures
+    run_aborted _ _ _ _ _ _ _ g.P.Search.plain (record { same = c.requires.procedure }) c.in-Aborted.ensures.aborted c.say.ensures
 
 pub returns-in-Failed-clause-ending : goal.returns-in-Failed-clause-ending
 returns-in-Failed-clause-ending g c = run_failed _ _ _ _ _ _ _ _ _ c.in-Failed.ensures.failed c.report_failure.ensures

@@ -1,19 +1,17 @@
-use Rattle.std.proofs.Common.{ℕ, ◌≡◌, List, [], ◌++◌, ◌∙◌, ap, append_assoc}
+use Rattle.std.proofs.Common.{ℕ, ◌≡◌, List, ◌++◌, ◌∙◌, ap, append_assoc}
 use Rattle.std.specs.Prelude.{codes}
 use Rattle.std.specs.Fmt.{decimal}
 use Rattle.tuner.specs.Lines.{settings_of}
 use Rattle.tuner.proofs.lines.child_fault_line.Goals as goal
 
 -- three pieces, one after another
-joined : (place settings start head line line' line'' : List ℕ)
-    → start ≡ [] → head ≡ codes "childfault " ++ (place ++ codes " ")
-    → line ≡ start ++ head → line' ≡ line ++ settings → line'' ≡ line' ++ codes "\n"
-    → line'' ≡ codes "childfault " ++ (place ++ (codes " " ++ (settings ++ codes "\n")))
-joined place settings start head line line' line'' none h e e' e'' =
-    e'' ∙ ap (λ xs. xs ++ codes "\n") (e' ∙ ap (λ xs. xs ++ settings) (e ∙ ap (λ xs. xs ++ head) none ∙ h))
-    ∙ simp append_assoc
+joined : (place settings head line line' : List ℕ) → head ≡ codes "childfault " ++ (place ++ codes " ")
+    → line ≡ head ++ settings → line' ≡ line ++ codes "\n"
+    → line' ≡ codes "childfault " ++ (place ++ (codes " " ++ (settings ++ codes "\n")))
+joined place settings head line line' h e e' =
+    e' ∙ ap (λ xs. xs ++ codes "\n") (e ∙ ap (λ xs. xs ++ settings) h) ∙ simp append_assoc
 
 pub returns : goal.returns
 returns c =
-    joined (decimal c.args.place) (settings_of c.args.space.now c.args.config.now) _ _ _ _ _ c.new-line.ensures.items
-    (c.as_bytes.ensures.value ∙ c.in_ok-format.ensures.ok) c.in_ok-extend_from_slice.ensures.items c.in_ok-push_settings.ensures.ok c.in_ok-push.ensures.items
+    joined (decimal c.args.place) (settings_of c.args.space.now c.args.config.now) _ _ _
+    (ap (λ v. v.items) c.into_bytes-line.ensures.value ∙ c.in_ok-format.ensures.ok) c.in_ok-push_settings.ensures.ok c.in_ok-push.ensures.items

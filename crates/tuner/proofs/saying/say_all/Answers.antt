@@ -1,6 +1,6 @@
 use Rattle.std.proofs.Common.{◌∙◌, refl, ap}
 use Rattle.tuner.specs.Promises.{unwritten, no_memory}
-use Rattle.tuner.proofs.Sayings.{part_of_lines, widened}
+use Rattle.tuner.proofs.SaidTexts.{part_of_lines, widened}
 use Rattle.tuner.proofs.saying.say_all.Goals as goal
 
 pub returns-in-Err-Fault : goal.returns-in-Err-Fault

@@ -1,6 +1,6 @@
 use Rattle.std.proofs.Common.{◌≡◌, ◌≤◌, take}
 use Rattle.std.specs.List.{flat_map}
-use Rattle.outside.specs.Meanings.{after_taking}
+use Rattle.outside.specs.Changes.{after_taking}
 use Rattle.tuner.proofs.saying.say_all.Given as goal
 
 -- the lines so far were taken, and nothing else

@@ -1,6 +1,6 @@
 use Rattle.std.proofs.Common.{Some, arith, ◌∙◌}
-use Rattle.tuner.specs.Problem.{table_of}
-use Rattle.tuner.proofs.Meetings.{present, present_ask, present_sound, present_falls, present_on, present_final, present_abort, traced_none, without_error}
+use Rattle.tuner.specs.ProblemRuns.{table_of}
+use Rattle.tuner.proofs.PresentAsks.{present, present_ask, present_sound, present_falls, present_on, present_final, present_abort, traced_none, without_error}
 use Rattle.tuner.proofs.searching.meet_all.Goals as goal
 
 pub loop-reply-init : goal.loop-reply-init

@@ -1,9 +1,9 @@
 use Rattle.std.proofs.Common.{◌≡◌, ◌≤◌, true, Some}
 use Rattle.objective.specs.declared.Outcome.{Outcome}
 use Rattle.outside.specs.declared.runs.Key.{Key}
-use Rattle.ils_face.specs.Tracing.{IsTraced}
-use Rattle.tuner.specs.Evaluating.{sums_of}
-use Rattle.tuner.specs.Problem.{table_of}
+use Rattle.ils_face.proofs.Traces.{IsTraced}
+use Rattle.tuner.specs.Evaluations.{sums_of}
+use Rattle.tuner.specs.ProblemRuns.{table_of}
 use Rattle.tuner.proofs.searching.meet_all.Given as goal
 
 -- the replies so far are those of the total costs to the first asks of the procedure

@@ -1,4 +1,4 @@
-use Rattle.tuner.proofs.Promised.{cause_of, headline_of, refuses_misused, refuses_faulty, refuses_unseated, refuses_focused, complete_of}
+use Rattle.tuner.proofs.PromiseLemmas.{cause_of, headline_of, refuses_misused, refuses_faulty, refuses_unseated, refuses_focused, complete_of}
 use Rattle.tuner.proofs.tuning.tune.Goals as goal
 
 pub returns-clause-headline : goal.returns-clause-headline

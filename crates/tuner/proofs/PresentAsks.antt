@@ -9,9 +9,12 @@ use Rattle.ils_face.specs.declared.asks.Ask.TheVariants.{End}
 use Rattle.ils_face.specs.declared.asks.Reply.{Reply}
 use Rattle.ils_face.specs.Replies.{Fits}
 use Rattle.ils_face.specs.Rules.{Rules, AreRules}
-use Rattle.ils_face.specs.Shown.{View, AreFitting, IsSteady, Follows, IsAsk, sums_under}
-use Rattle.ils_face.specs.Tracing.{question_of, IsReplyBy, IsUnknown, IsTraced, IsFinal, traced_first, traced_on, traced_final, traced_abort}
-use Rattle.tuner.specs.Searched.{IsSound}
+use Rattle.ils_face.specs.Views.{View, AreFitting}
+use Rattle.ils_face.specs.Steady.{IsSteady, IsAsk}
+use Rattle.ils_face.specs.Follows.{Follows, sums_under}
+use Rattle.ils_face.specs.Traces.{question_of, IsReplyBy, IsUnknown, IsFinal}
+use Rattle.ils_face.proofs.Traces.{IsTraced, traced_first, traced_on, traced_final, traced_abort}
+use Rattle.tuner.specs.SearchEnds.{IsSound}
 
 -- the ask is shown under these rules after these replies, which fit
 pub record IsPresent (shown : Rules → List Reply → View) (rules : Rules) (replies : List Reply) (ask : Ask) : Type 0 where

@@ -9,11 +9,13 @@ use Rattle.uncapped.specs.Procedure.{Aborted}
 use Rattle.uncapped.specs.Uncapped.{Run, Approach, uncapped}
 use Rattle.ils_face.specs.Rules.{Rules}
 use Rattle.ils_face.specs.Setups.{setup_of}
-use Rattle.ils_face.specs.Shown.{View, sums_under}
-use Rattle.ils_face.specs.Tracing.{IsFinal}
+use Rattle.ils_face.specs.Views.{View}
+use Rattle.ils_face.specs.Follows.{sums_under}
+use Rattle.ils_face.specs.Traces.{IsFinal}
 use Rattle.tuner.specs.Lines.{all_lines, child_fault_line, unbuilt_line}
-use Rattle.tuner.specs.Meeting.{IsFailure}
-use Rattle.tuner.specs.Problem.{Problem, procedure_of, table_of, uncapped_run}
+use Rattle.tuner.specs.AskEnds.{IsFailure}
+use Rattle.tuner.specs.Problem.{Problem}
+use Rattle.tuner.specs.ProblemRuns.{procedure_of, table_of, uncapped_run}
 use Rattle.tuner.specs.Promises.{Running, Taking, RanTo, RunEnding, EndsRunning, finished, aborted, child_failed, no_memory, Said, Reported, made, not_made}
 use Rattle.tuner.specs.declared.status.Status.{Status}
 use Rattle.tuner.specs.declared.status.Status.TheVariants as status

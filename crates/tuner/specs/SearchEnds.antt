@@ -2,9 +2,9 @@
 use Rattle.std.specs.Prelude.{ℕ, All, List}
 use Rattle.param_space.specs.Configurations.{IsConfig}
 use Rattle.ils_face.specs.Rules.{Rules}
-use Rattle.ils_face.specs.Shown.{View}
+use Rattle.ils_face.specs.Views.{View}
 use Rattle.tuner.specs.declared.searching.Searched.{Searched}
-use Rattle.tuner.specs.declared.searching.Searched.TheVariants as end
+use Rattle.tuner.specs.declared.searching.Searched.TheVariants.{Ended, Aborted, Failed, Memory}
 
 -- all incumbents that are shown are allowed canonical configurations
 pub record IsSound (rules : Rules) (view : View) : Type 0 where
@@ -13,21 +13,21 @@ pub record IsSound (rules : Rules) (view : View) : Type 0 where
 
 -- the fact, where the search ended
 abbrev pub OnEnded : Searched → Type 0 → Type 0
-OnEnded end.Ended P = P
-OnEnded end.Aborted P = Unit {0}
-OnEnded (end.Failed config place) P = Unit {0}
-OnEnded end.Memory P = Unit {0}
+OnEnded Ended P = P
+OnEnded Aborted P = Unit {0}
+OnEnded (Failed config place) P = Unit {0}
+OnEnded Memory P = Unit {0}
 
 -- the fact, where a child aborted
 abbrev pub OnAborted : Searched → Type 0 → Type 0
-OnAborted end.Ended P = Unit {0}
-OnAborted end.Aborted P = P
-OnAborted (end.Failed config place) P = Unit {0}
-OnAborted end.Memory P = Unit {0}
+OnAborted Ended P = Unit {0}
+OnAborted Aborted P = P
+OnAborted (Failed config place) P = Unit {0}
+OnAborted Memory P = Unit {0}
 
 -- the fact of the configuration and the place, where a child failed
 abbrev pub IfFailed : Searched → (List ℕ → ℕ → Type 0) → Type 0
-IfFailed end.Ended P = Unit {0}
-IfFailed end.Aborted P = Unit {0}
-IfFailed (end.Failed config place) P = P config place
-IfFailed end.Memory P = Unit {0}
+IfFailed Ended P = Unit {0}
+IfFailed Aborted P = Unit {0}
+IfFailed (Failed config place) P = P config place
+IfFailed Memory P = Unit {0}

@@ -5,11 +5,11 @@ use Rattle.std.proofs.lemmas.Bool.{cases_lt}
 use Rattle.std.proofs.lemmas.List.{take-append-le, take-append-drop}
 use Rattle.std.proofs.lemmas.List.Concat.{flat_map-append}
 use Rattle.std.proofs.Math.Seq.{take-append_seam, take-append-add, drop-cons}
-use Rattle.outside.specs.Meanings.{after_taking}
-use Rattle.tuner.specs.Writing.{TookPartOf, WroteBadly, failed, nothing_taken}
+use Rattle.outside.specs.Changes.{after_taking}
+use Rattle.outside.specs.WholePieces.{TookPartOf, WroteBadly, failed, nothing_taken}
 use Rattle.tuner.specs.Promises.{Said, Reported, made, Taking}
 use Rattle.tuner.specs.declared.status.Status.{Status}
-use Rattle.tuner.proofs.Taking.{after_taking-append}
+use Rattle.outside.proofs.TakenParts.{after_taking-append}
 
 -- a part of the second text, after the whole first
 part_after : (before middle after : Option (List ℕ)) (first second : List ℕ) → middle ≡ after_taking before first → TookPartOf middle after second → TookPartOf before after (first ++ second)

@@ -8,9 +8,10 @@ use Rattle.objective.specs.declared.Outcome.{Outcome}
 use Rattle.outside.specs.declared.runs.Key.{Key}
 use Rattle.uncapped.specs.Procedure.{Sums}
 use Rattle.uncapped.specs.Totals.{total_cost}
-use Rattle.tuner.specs.Problem.{Problem, table_of}
+use Rattle.tuner.specs.Problem.{Problem}
+use Rattle.tuner.specs.ProblemRuns.{table_of}
 use Rattle.tuner.specs.declared.evaluation.Evaluated.{Evaluated}
-use Rattle.tuner.specs.declared.evaluation.Evaluated.TheVariants as end
+use Rattle.tuner.specs.declared.evaluation.Evaluated.TheVariants.{Sum, Aborted, Failed, Memory}
 
 -- the cost of an answer under the full cutoff; none exactly for an abort
 abbrev pub cost_seen : Bounds → Answer → Option ℕ
@@ -30,21 +31,21 @@ pub record IsPlace (max_runs place : ℕ) : Type 0 where
 
 -- the fact of the sum, where there is one
 abbrev pub IfSum : Evaluated → (ℕ → Type 0) → Type 0
-IfSum (end.Sum x) P = P x.0
-IfSum end.Aborted P = Unit {0}
-IfSum (end.Failed place) P = Unit {0}
-IfSum end.Memory P = Unit {0}
+IfSum (Sum x) P = P x.0
+IfSum Aborted P = Unit {0}
+IfSum (Failed place) P = Unit {0}
+IfSum Memory P = Unit {0}
 
 -- the fact, where a child aborted
 abbrev pub OnAborted : Evaluated → Type 0 → Type 0
-OnAborted (end.Sum x) P = Unit {0}
-OnAborted end.Aborted P = P
-OnAborted (end.Failed place) P = Unit {0}
-OnAborted end.Memory P = Unit {0}
+OnAborted (Sum x) P = Unit {0}
+OnAborted Aborted P = P
+OnAborted (Failed place) P = Unit {0}
+OnAborted Memory P = Unit {0}
 
 -- the fact of the place, where a child failed
 abbrev pub IfFailed : Evaluated → (ℕ → Type 0) → Type 0
-IfFailed (end.Sum x) P = Unit {0}
-IfFailed end.Aborted P = Unit {0}
-IfFailed (end.Failed place) P = P place
-IfFailed end.Memory P = Unit {0}
+IfFailed (Sum x) P = Unit {0}
+IfFailed Aborted P = Unit {0}
+IfFailed (Failed place) P = P place
+IfFailed Memory P = Unit {0}

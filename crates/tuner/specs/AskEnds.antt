@@ -2,15 +2,16 @@
 use Rattle.std.specs.Prelude.{ℕ, ◌≡◌, List, Option, Some}
 use Rattle.std.specs.Option.{option_map}
 use Rattle.objective.specs.declared.Sum.{Sum}
-use Rattle.outside.specs.declared.runs.Run as runs
+use Rattle.outside.specs.declared.runs.Run.{Run}
 use Rattle.outside.specs.Counts.{Rose}
 use Rattle.param_space.specs.Configurations.{IsConfig}
 use Rattle.uncapped.specs.Procedure.{Question}
 use Rattle.ils_face.specs.declared.asks.Reply.{Reply}
-use Rattle.tuner.specs.Evaluating.{IsPlace}
-use Rattle.tuner.specs.Problem.{Problem, run_at}
+use Rattle.tuner.specs.Evaluations.{IsPlace}
+use Rattle.tuner.specs.Problem.{Problem}
+use Rattle.tuner.specs.ProblemRuns.{run_at}
 use Rattle.tuner.specs.declared.meeting.Met.{Met}
-use Rattle.tuner.specs.declared.meeting.Met.TheVariants as met
+use Rattle.tuner.specs.declared.meeting.Met.TheVariants
 
 -- the bound of a question
 abbrev pub bound_of : Option Sum → Option ℕ
@@ -21,7 +22,7 @@ abbrev pub question : List ℕ → ℕ → Option Sum → Question
 question config n bound = record { config = config; places = n; bound = bound_of bound }
 
 -- the run of a configuration at a place failed, and the spawner's count rose
-pub record IsFailure (problem : Problem) (faults faults' : ℕ) (failed : Option runs.Run) (config : List ℕ) (place : ℕ) : Type 0 where
+pub record IsFailure (problem : Problem) (faults faults' : ℕ) (failed : Option Run) (config : List ℕ) (place : ℕ) : Type 0 where
   pub sound : IsConfig problem.rules.space config
   pub in_range : IsPlace problem.rules.max_runs place
   pub run : failed ≡ Some (run_at problem config place)
@@ -29,32 +30,32 @@ pub record IsFailure (problem : Problem) (faults faults' : ℕ) (failed : Option
 
 -- the fact of the reply, where there is one
 abbrev pub IfReply : Met → (Reply → Type 0) → Type 0
-IfReply (met.Reply r) P = P r
-IfReply met.End P = Unit {0}
-IfReply met.Aborted P = Unit {0}
-IfReply (met.Failed config place) P = Unit {0}
-IfReply met.Memory P = Unit {0}
+IfReply (TheVariants.Reply r) P = P r
+IfReply TheVariants.End P = Unit {0}
+IfReply TheVariants.Aborted P = Unit {0}
+IfReply (TheVariants.Failed config place) P = Unit {0}
+IfReply TheVariants.Memory P = Unit {0}
 
 -- the fact, where nothing was asked for
 abbrev pub OnEnd : Met → Type 0 → Type 0
-OnEnd (met.Reply r) P = Unit {0}
-OnEnd met.End P = P
-OnEnd met.Aborted P = Unit {0}
-OnEnd (met.Failed config place) P = Unit {0}
-OnEnd met.Memory P = Unit {0}
+OnEnd (TheVariants.Reply r) P = Unit {0}
+OnEnd TheVariants.End P = P
+OnEnd TheVariants.Aborted P = Unit {0}
+OnEnd (TheVariants.Failed config place) P = Unit {0}
+OnEnd TheVariants.Memory P = Unit {0}
 
 -- the fact, where a child aborted
 abbrev pub OnAbort : Met → Type 0 → Type 0
-OnAbort (met.Reply r) P = Unit {0}
-OnAbort met.End P = Unit {0}
-OnAbort met.Aborted P = P
-OnAbort (met.Failed config place) P = Unit {0}
-OnAbort met.Memory P = Unit {0}
+OnAbort (TheVariants.Reply r) P = Unit {0}
+OnAbort TheVariants.End P = Unit {0}
+OnAbort TheVariants.Aborted P = P
+OnAbort (TheVariants.Failed config place) P = Unit {0}
+OnAbort TheVariants.Memory P = Unit {0}
 
 -- the fact of the configuration and the place, where a child failed
 abbrev pub IfFault : Met → (List ℕ → ℕ → Type 0) → Type 0
-IfFault (met.Reply r) P = Unit {0}
-IfFault met.End P = Unit {0}
-IfFault met.Aborted P = Unit {0}
-IfFault (met.Failed config place) P = P config place
-IfFault met.Memory P = Unit {0}
+IfFault (TheVariants.Reply r) P = Unit {0}
+IfFault TheVariants.End P = Unit {0}
+IfFault TheVariants.Aborted P = Unit {0}
+IfFault (TheVariants.Failed config place) P = P config place
+IfFault TheVariants.Memory P = Unit {0}

@@ -1,6 +1,6 @@
 //! The names of the rules that a file may break.
 ghost use Rattle.std.specs.Prelude.{◌≡◌};
-ghost use Rattle.tuner.specs.Faults.{scenario_text, space_text, params_text, instances_text, what_text};
+ghost use Rattle.tuner.specs.RuleNames;
 
 use crate::status::What;
 use instance_pairs::InstanceWhat;
@@ -9,8 +9,8 @@ use param_space::SpaceWhat;
 use scenario_files::ScenarioWhat;
 
 /// The name of a rule of a scenario file.
-fn scenario_name(what: ScenarioWhat) -> &'static str
-    ensures { result.now ≡ scenario_text what }
+fn scenario_rule(what: ScenarioWhat) -> &'static str
+    ensures { result.now ≡ RuleNames.scenario_rule what }
 {
     match what {
         ScenarioWhat::NotText => "NotText",
@@ -24,8 +24,8 @@ fn scenario_name(what: ScenarioWhat) -> &'static str
 }
 
 /// The name of a rule of a space.
-fn space_name(what: SpaceWhat) -> &'static str
-    ensures { result.now ≡ space_text what }
+fn space_rule(what: SpaceWhat) -> &'static str
+    ensures { result.now ≡ RuleNames.space_rule what }
 {
     match what {
         SpaceWhat::NoParameters => "NoParameters",
@@ -43,19 +43,19 @@ fn space_name(what: SpaceWhat) -> &'static str
 }
 
 /// The name of a rule of a parameter file.
-fn params_name(what: ParamWhat) -> &'static str
-    ensures { result.now ≡ params_text what }
+fn params_rule(what: ParamWhat) -> &'static str
+    ensures { result.now ≡ RuleNames.params_rule what }
 {
     match what {
         ParamWhat::NotText => "NotText",
         ParamWhat::Form => "Form",
-        ParamWhat::Space(rule) => space_name(rule),
+        ParamWhat::Space(rule) => space_rule(rule),
     }
 }
 
 /// The name of a rule of an instance file.
-fn instances_name(what: InstanceWhat) -> &'static str
-    ensures { result.now ≡ instances_text what }
+fn instances_rule(what: InstanceWhat) -> &'static str
+    ensures { result.now ≡ RuleNames.instances_rule what }
 {
     match what {
         InstanceWhat::NotText => "NotText",
@@ -65,12 +65,12 @@ fn instances_name(what: InstanceWhat) -> &'static str
 }
 
 /// The name of a rule of a file.
-pub(crate) fn what_name(what: What) -> &'static str
-    ensures { result.now ≡ what_text what }
+pub(crate) fn rule_name(what: What) -> &'static str
+    ensures { result.now ≡ RuleNames.rule_name what }
 {
     match what {
-        What::Scenario(rule) => scenario_name(rule),
-        What::Params(rule) => params_name(rule),
-        What::Instances(rule) => instances_name(rule),
+        What::Scenario(rule) => scenario_rule(rule),
+        What::Params(rule) => params_rule(rule),
+        What::Instances(rule) => instances_rule(rule),
     }
 }

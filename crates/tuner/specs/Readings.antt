@@ -1,0 +1,93 @@
+-- The reading of words and files as a problem.
+use Rattle.std.specs.Prelude.{ℕ, List, Option, Some, None, Result, Ok, Err}
+use Rattle.plain_text.specs.Faults.{LineFault}
+use Rattle.param_space.specs.Space.{Lists}
+use Rattle.param_files.specs.Reading.{params_read}
+use Rattle.scenario_files.specs.declared.call.Words.{Words}
+use Rattle.scenario_files.specs.declared.draft.Draft.{Draft}
+use Rattle.scenario_files.specs.declared.filling.Scenario.{Scenario}
+use Rattle.scenario_files.specs.Words.{words_read}
+use Rattle.instance_pairs.specs.declared.instances.Instance.{Instance}
+use Rattle.instance_pairs.specs.Files.{instances_read}
+use Rattle.tuner.specs.Problem.{Problem}
+use Rattle.tuner.specs.ScenarioProblem.{whole_scenario, problem_from}
+use Rattle.tuner.specs.declared.status.FileKind.{FileKind}
+use Rattle.tuner.specs.declared.status.FileKind.TheVariants as kind
+use Rattle.tuner.specs.declared.status.What.{What}
+use Rattle.tuner.specs.declared.status.What.TheVariants as what
+
+-- words and files as a value, or the first refusal in the order in which they are read
+pub data Reading (A : Type 0) : Type 0 where
+  Reads : A → Reading A
+  Misused : ℕ → Reading A  -- the key word at this place is wrong
+  Bad : FileKind → List ℕ → ℕ → What → Reading A  -- a file has no reading: its name, and the line and the rule of its first fault
+  Absent : FileKind → Reading A  -- a file isn't there
+
+infixl 10 ◌>>=◌
+-- one reading after another, which takes its value
+abbrev pub ◌>>=◌ : {A B : Type 0} → Reading A → (A → Reading B) → Reading B
+Reads x >>= f = f x
+Misused place >>= f = Misused place
+Bad kind name line what >>= f = Bad kind name line what
+Absent kind >>= f = Absent kind
+
+-- what words give, or the place of the wrong one
+abbrev pub words_reading : Result Words ℕ → Reading Words
+words_reading (Ok words) = Reads words
+words_reading (Err place) = Misused place
+
+-- the bytes of a file that is there
+abbrev pub file_bytes : FileKind → Option (List ℕ) → Reading (List ℕ)
+file_bytes kind None = Absent kind
+file_bytes kind (Some bytes) = Reads bytes
+
+-- what a file with this name states, or its first fault
+abbrev pub statement_reading : {A W : Type 0} → FileKind → (W → What) → List ℕ → Result A (LineFault W) → Reading A
+statement_reading kind rule name (Ok x) = Reads x
+statement_reading kind rule name (Err fault) = Bad kind name fault.line (rule fault.what)
+
+-- what the file with this name states, where it is there, by a reading of its bytes
+abbrev pub file_reading : {A W : Type 0} → FileKind → (W → What) → (List ℕ → Result A (LineFault W)) → (List ℕ → Option (List ℕ)) → List ℕ → Reading A
+file_reading kind rule read contents name = file_bytes kind (contents name) >>= λ bytes. statement_reading kind rule name (read bytes)
+
+-- the scenario that a scenario file and the keys of words state
+abbrev pub scenario_reading : (List ℕ → Option (List ℕ)) → List ℕ → Draft → Reading Scenario
+scenario_reading contents name draft = file_reading kind.Scenario what.Scenario (whole_scenario draft) contents name
+
+-- the space that a parameter file states
+abbrev pub space_reading : (List ℕ → Option (List ℕ)) → List ℕ → Reading Lists
+space_reading = file_reading kind.Params what.Params params_read
+
+-- the instances that an instance file states
+abbrev pub instances_reading : (List ℕ → Option (List ℕ)) → List ℕ → Reading (List Instance)
+instances_reading = file_reading kind.Instances what.Instances instances_read
+
+-- the problem that a scenario and the files that it names state
+abbrev pub problem_in : (List ℕ → Option (List ℕ)) → Scenario → Reading Problem
+problem_in contents scenario = do
+  space ← space_reading contents scenario.paramfile
+  instances ← instances_reading contents scenario.instance_file
+  Reads (problem_from scenario space instances)
+
+-- the problem that words and the files that they name state
+abbrev pub problem_by : (List ℕ → Option (List ℕ)) → Words → Reading Problem
+problem_by contents words = scenario_reading contents words.scenario_file words.draft >>= problem_in contents
+
+-- the problem that the words of a call and the files state
+abbrev pub problem_of : List (List ℕ) → (List ℕ → Option (List ℕ)) → Reading Problem
+problem_of words contents = words_reading (words_read words) >>= problem_by contents
+
+-- the name of a file that is to be read, once the files before it have a reading
+abbrev pub file_by : (List ℕ → Option (List ℕ)) → Words → FileKind → Reading (List ℕ)
+file_by contents words kind.Scenario = Reads words.scenario_file
+file_by contents words kind.Params = do
+  scenario ← scenario_reading contents words.scenario_file words.draft
+  Reads scenario.paramfile
+file_by contents words kind.Instances = do
+  scenario ← scenario_reading contents words.scenario_file words.draft
+  space ← space_reading contents scenario.paramfile
+  Reads scenario.instance_file
+
+-- the same by the words of a call
+abbrev pub file_name : List (List ℕ) → (List ℕ → Option (List ℕ)) → FileKind → Reading (List ℕ)
+file_name words contents kind = words_reading (words_read words) >>= λ call. file_by contents call kind
