@@ -55,7 +55,7 @@ seed_at File seed count place = place
 seed_at Shuffled seed count place = word_of seed (stream_of count place) (count + position_of count place) % seed_count
 
 -- the instance and the seed of a place
-pub record Drawn : Type 0 where
+pub record DrawnPair : Type 0 where
   pub instance : Instance
   pub seed : ℕ
 
@@ -64,7 +64,7 @@ abbrev pub instance_at : List Instance → ℕ → Instance
 instance_at instances number = slice_index_or instances number (record { name = []; specifics = [] })
 
 -- the pair of a place, from 1; deterministic runs have the seed 0
-abbrev pub pair_at : Plan → ℕ → Drawn
+abbrev pub pair_at : Plan → ℕ → DrawnPair
 pair_at s place = record {
   instance = instance_at s.instances (number_at s.order s.seed (length s.instances) place);
   seed = if s.deterministic then 0 else seed_at s.order s.seed (length s.instances) place;
