@@ -9,7 +9,7 @@ use Rattle.scenario_files.specs.declared.draft.PairOrder.TheVariants.{Shuffled, 
 use Rattle.seeded_order.specs.Draws.{word_of, order_of}
 use Rattle.seeded_order.proofs.Orders.{length-order_of, All-order_of}
 use Rattle.instance_pairs.specs.declared.spots.Spot.{Spot}
-use Rattle.instance_pairs.specs.Pairs.{round_of, position_of, stream_of, number_at, seed_count, seed_at, spot_at, spots_to, AreSpots}
+use Rattle.instance_pairs.specs.Pairs.{round_of, position_of, round_stream, number_at, seed_count, seed_at, spot_at, spots_to, AreSpots}
 
 -- one place more
 pub more_spots : (order : PairOrder) (seed count n : ℕ) (spots : List Spot) (spot : Spot) → spots ≡ spots_to order seed count n → spot ≡ spot_at order seed count (n + 1) → spots ++ spot ∷ [] ≡ spots_to order seed count (n + 1)
@@ -39,18 +39,18 @@ pub shuffled_spot : (seed count round position number word stream : ℕ) → pos
     → record { instance = number; seed = word % seed_count } ≡ spot_at Shuffled seed count (round * count + position + 1)
 shuffled_spot seed count round position number word stream h is stands drawn =
     let place = round * count + position + 1 in
-    let same_stream : stream ≡ stream_of count place = is ∙ ap (λ b. 2 * b + 1) (sym (round_is count round position h)) in
+    let same_stream : stream ≡ round_stream count place = is ∙ ap (λ b. 2 * b + 1) (sym (round_is count round position h)) in
     let same_position : position ≡ position_of count place = sym (position_is count round position h) in
-    let first : number ≡ number_at Shuffled seed count place = stands ∙ ap (λ s. slice_index (order_of seed s count) position) same_stream ∙ ap (λ q. slice_index (order_of seed (stream_of count place) count) q) same_position in
+    let first : number ≡ number_at Shuffled seed count place = stands ∙ ap (λ s. slice_index (order_of seed s count) position) same_stream ∙ ap (λ q. slice_index (order_of seed (round_stream count place) count) q) same_position in
     let second : word % seed_count ≡ seed_at Shuffled seed count place =
-    ap (λ w. w % seed_count) (drawn ∙ ap (λ s. word_of seed s (count + position)) same_stream ∙ ap (λ q. word_of seed (stream_of count place) (count + q)) same_position) in
+    ap (λ w. w % seed_count) (drawn ∙ ap (λ s. word_of seed s (count + position)) same_stream ∙ ap (λ q. word_of seed (round_stream count place) (count + q)) same_position) in
     λ i. record { instance = first i; seed = second i }
 
 -- each place has the number of an instance
 pub number_below : (order : PairOrder) (seed count place : ℕ) → 1 ≤ count → number_at order seed count place < count
 number_below File seed count place some = mod-lt (place - 1) (omega (arith, some))
 number_below Shuffled seed count place some =
-    let stream = stream_of count place in
+    let stream = round_stream count place in
     let short : position_of count place < count = mod-lt (place - 1) (omega (arith, some)) in
     All-order_of seed stream count (position_of count place) 0 (omega (arith, short, length-order_of seed stream count))
 

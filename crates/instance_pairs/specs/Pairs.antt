@@ -18,7 +18,7 @@ pub record Plan : Type 0 where
   pub max_runs : ℕ
 
 -- the numbers of instances and runs that there may be
-pub record AreInRange (count max_runs : ℕ) : Type 0 where
+pub record ArePairsInRange (count max_runs : ℕ) : Type 0 where
   pub some : 1 ≤ count
   pub few : count ≤ max_instances
   pub one : 1 ≤ max_runs
@@ -37,13 +37,13 @@ abbrev pub position_of : ℕ → ℕ → ℕ
 position_of count place = (place - 1) % count
 
 -- the stream of the draws of a place's round
-abbrev pub stream_of : ℕ → ℕ → ℕ
-stream_of count place = 2 * round_of count place + 1
+abbrev pub round_stream : ℕ → ℕ → ℕ
+round_stream count place = 2 * round_of count place + 1
 
 -- the number of a place's instance, from 0: in file order the position; shuffled what stands there in the round's order
 abbrev pub number_at : PairOrder → ℕ → ℕ → ℕ → ℕ
 number_at File seed count place = position_of count place
-number_at Shuffled seed count place = slice_index (order_of seed (stream_of count place) count) (position_of count place)
+number_at Shuffled seed count place = slice_index (order_of seed (round_stream count place) count) (position_of count place)
 
 -- how many seeds a word may give
 abbrev pub seed_count : ℕ
@@ -52,7 +52,7 @@ seed_count = 2147483648
 -- the seed of a place: in file order the place; shuffled a word of the round's stream after those of the order
 abbrev pub seed_at : PairOrder → ℕ → ℕ → ℕ → ℕ
 seed_at File seed count place = place
-seed_at Shuffled seed count place = word_of seed (stream_of count place) (count + position_of count place) % seed_count
+seed_at Shuffled seed count place = word_of seed (round_stream count place) (count + position_of count place) % seed_count
 
 -- the instance and the seed of a place
 pub record DrawnPair : Type 0 where

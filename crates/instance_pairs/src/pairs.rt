@@ -38,13 +38,13 @@ pub struct Pairs {
 
 impl Model for Pairs {
     ghost use Rattle.std.specs.Prelude.{length};
-    ghost use Rattle.instance_pairs.specs.Pairs.{Plan, AreInRange, AreSpots};
+    ghost use Rattle.instance_pairs.specs.Pairs.{Plan, ArePairsInRange, AreSpots};
 
     ghost Value = { Plan };
 
     ghost view = { λ p. record { instances = p.instances; seed = p.seed; deterministic = p.deterministic; order = p.order; max_runs = p.max_runs } };
 
-    ghost invariant = { λ p. AreInRange (length p.instances) p.max_runs × AreSpots p.order p.seed (length p.instances) p.max_runs p.spots };
+    ghost invariant = { λ p. ArePairsInRange (length p.instances) p.max_runs × AreSpots p.order p.seed (length p.instances) p.max_runs p.spots };
 }
 
 /// How many runs a configuration may have at most.

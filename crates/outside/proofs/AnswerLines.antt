@@ -11,8 +11,8 @@ use Rattle.objective.specs.declared.Answer.{Answer}
 use Rattle.objective.specs.declared.Answer.TheVariants.{Solved, Timeout, Crashed, Abort}
 use Rattle.objective.specs.declared.Outcome.{Outcome}
 use Rattle.objective.specs.declared.Outcome.TheVariants as outcome
-use Rattle.outside.specs.Results.{answer_of, answer_from, answer_by, line_of, result_line, solved_within}
-use Rattle.outside.proofs.WrittenTimes.{micros_of-seconds}
+use Rattle.outside.specs.Results.{answer_of, answer_from, answer_by, answer_line, result_line, solved_within}
+use Rattle.outside.proofs.WrittenTimes.{line_micros-seconds}
 
 before_suffix-append : (xs p : List ℕ) → before_suffix p (xs ++ p) ≡ Some xs
 before_suffix-append xs p =
@@ -21,7 +21,7 @@ before_suffix-append xs p =
 
 answer_from-rest : (cutoff : ℕ) (word : List ℕ) (t : ℕ) → t < 2 ^ 64 → answer_from cutoff word (before_suffix (codes ", 0, 0, 0\n") (seconds t ++ codes ", 0, 0, 0\n")) ≡ answer_by cutoff word (Some t)
 answer_from-rest cutoff word t small =
-    ap (answer_from cutoff word) (before_suffix-append (seconds t) (codes ", 0, 0, 0\n")) ∙ ap (answer_by cutoff word) (micros_of-seconds t small)
+    ap (answer_from cutoff word) (before_suffix-append (seconds t) (codes ", 0, 0, 0\n")) ∙ ap (answer_by cutoff word) (line_micros-seconds t small)
 
 answer_of-SAT : (t cutoff : ℕ) → t < 2 ^ 64 → answer_of (result_line (codes "SAT") t) cutoff ≡ solved_within cutoff t
 answer_of-SAT t cutoff small = answer_from-rest cutoff (codes "SAT") t small
@@ -36,7 +36,7 @@ IsShown Abort cutoff = Unit {0}
 solved_within-shown : (t : Micros) (cutoff : ℕ) → t.0 ≤ cutoff → solved_within cutoff t.0 ≡ Solved t
 solved_within-shown t cutoff h = grind (arith, nat_tests)
 
-pub answer_of-line : (a : Answer) (cutoff : ℕ) → cutoff < 2 ^ 64 → IsShown a cutoff → answer_of (line_of a) cutoff ≡ a
+pub answer_of-line : (a : Answer) (cutoff : ℕ) → cutoff < 2 ^ 64 → IsShown a cutoff → answer_of (answer_line a) cutoff ≡ a
 unfolding IsShown
 answer_of-line (Solved t) cutoff small h = answer_of-SAT t.0 cutoff (omega (arith, h, small)) ∙ solved_within-shown t cutoff h
 answer_of-line Timeout cutoff small h = answer_from-rest cutoff (codes "TIMEOUT") 0 (omega arith)
@@ -61,5 +61,5 @@ IsShown-seen (outcome.Crashed t) cutoff = otherwise_shown (nat_le t.0 cutoff) Cr
 IsShown-seen (outcome.Abort t) cutoff = otherwise_shown (nat_le t.0 cutoff) Abort cutoff tt
 
 -- what a run with this outcome shows is read from its line
-pub answer_of-seen : (o : Outcome) (cutoff : ℕ) → cutoff < 2 ^ 64 → answer_of (line_of (seen o cutoff)) cutoff ≡ seen o cutoff
+pub answer_of-seen : (o : Outcome) (cutoff : ℕ) → cutoff < 2 ^ 64 → answer_of (answer_line (seen o cutoff)) cutoff ≡ seen o cutoff
 answer_of-seen o cutoff small = answer_of-line (seen o cutoff) cutoff small (IsShown-seen o cutoff)

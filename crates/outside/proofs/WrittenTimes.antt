@@ -11,7 +11,7 @@ use Rattle.std.proofs.Math.Nat.{div-div-eq-div-mul}
 use Rattle.std.proofs.Math.Seq.{take-append_seam}
 use Rattle.plain_text.specs.Decimals.{seconds, six_digits}
 use Rattle.plain_text.proofs.Digits.{digits_model}
-use Rattle.outside.specs.Results.{micros_of, is_time}
+use Rattle.outside.specs.Results.{line_micros, is_time}
 use Rattle.outside.proofs.Times.{digits_value-joined}
 
 point_place : (ds rest : List ℕ) → list_all is_ascii_digit ds ≡ true → position_or_len (λ b. b == 46) (ds ++ 46 ∷ rest) ≡ length ds
@@ -75,9 +75,9 @@ time_value t small =
     omega (arith, digits_value-joined (decimal (t / 1000000)) (six_bytes t) six, digits_value-decimal digits_model (t / 1000000) below, six_value t)
 
 -- a time that is written in seconds is read back
-pub micros_of-seconds : (t : ℕ) → t < 2 ^ 64 → micros_of (seconds t) ≡ Some t
-micros_of-seconds t small =
+pub line_micros-seconds : (t : ℕ) → t < 2 ^ 64 → line_micros (seconds t) ≡ Some t
+line_micros-seconds t small =
     let below : t / 1000000 < 2 ^ 64 = omega arith in
     let digits : list_all is_ascii_digit (decimal (t / 1000000)) ≡ true = digits_decimal digits_model (t / 1000000) below in
-    ap micros_of (seconds-bytes t)
+    ap line_micros (seconds-bytes t)
     ∙ rw (before_point (decimal (t / 1000000)) (six_bytes t) digits, after_point (decimal (t / 1000000)) (six_bytes t) digits, is_time-of_seconds t small, time_value t small)

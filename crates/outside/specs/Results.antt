@@ -13,11 +13,11 @@ abbrev pub result_line : List ℕ → ℕ → List ℕ
 result_line word micros = codes "Result for ParamILS: " ++ (word ++ (codes ", " ++ (seconds micros ++ codes ", 0, 0, 0\n")))
 
 -- the line that shows an answer
-abbrev pub line_of : Answer → List ℕ
-line_of (Solved t) = result_line (codes "SAT") t.0
-line_of Timeout = result_line (codes "TIMEOUT") 0
-line_of Crashed = result_line (codes "CRASHED") 0
-line_of Abort = result_line (codes "ABORT") 0
+abbrev pub answer_line : Answer → List ℕ
+answer_line (Solved t) = result_line (codes "SAT") t.0
+answer_line Timeout = result_line (codes "TIMEOUT") 0
+answer_line Crashed = result_line (codes "CRASHED") 0
+answer_line Abort = result_line (codes "ABORT") 0
 
 -- one or more digits, and six digits
 abbrev pub is_time : List ℕ → List ℕ → Bool
@@ -33,8 +33,8 @@ abbrev pub u64_value : ℕ → Option ℕ
 u64_value n = if nat_lt n (2 ^ 64) then Some n else None
 
 -- a time with its point, as microseconds
-abbrev pub micros_of : List ℕ → Option ℕ
-micros_of text = micros_from (before_first (λ b. b == 46) text) (after_first (λ b. b == 46) text)
+abbrev pub line_micros : List ℕ → Option ℕ
+line_micros text = micros_from (before_first (λ b. b == 46) text) (after_first (λ b. b == 46) text)
 
 -- a time above the cutoff is a timeout
 abbrev pub solved_within : ℕ → ℕ → Answer
@@ -52,7 +52,7 @@ answer_by cutoff word (Some t) =
 -- what the time after the first comma and its blank says, where the line ends as it has to
 abbrev pub answer_from : ℕ → List ℕ → Option (List ℕ) → Answer
 answer_from cutoff word None = Crashed
-answer_from cutoff word (Some time) = answer_by cutoff word (micros_of time)
+answer_from cutoff word (Some time) = answer_by cutoff word (line_micros time)
 
 -- what the text after the first comma says
 abbrev pub answer_between : ℕ → List ℕ → Option (List ℕ) → Answer

@@ -1,7 +1,7 @@
 //! A seat in memory whose runs do what a table says.
 ghost use Rattle.std.specs.Prelude.{◌≡◌, [], true, false, None, Some, IfOk};
 ghost use Rattle.objective.specs.Costs;
-ghost use Rattle.outside.specs.Results.{answer_of, result_line, line_of};
+ghost use Rattle.outside.specs.Results.{answer_of, result_line, answer_line};
 ghost use Rattle.outside.specs.Seats.{Reads};
 
 use crate::faults::{Fail, Fault, Poll};
@@ -91,7 +91,7 @@ fn result_text(alloc: Global, word: &str, time: Micros) -> Result<Text, Memory>
 
 /// The result line that shows an answer.
 fn line_text(alloc: Global, answer: Answer) -> Result<Text, Memory>
-    ensures { IfOk result (λ t. t ≡ line_of answer) }
+    ensures { IfOk result (λ t. t ≡ answer_line answer) }
 {
     match answer {
         Answer::Solved(time) => result_text(alloc, "SAT", time),

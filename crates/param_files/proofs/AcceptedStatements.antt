@@ -18,7 +18,7 @@ use Rattle.param_space.proofs.RuleLemmas.{rules_hold, none_here, none_broken}
 use Rattle.param_files.specs.declared.statements.Statement.{Statement}
 use Rattle.param_files.specs.declared.statements.Statement.TheVariants.{Nothing, Parameter, Condition as Conditional, Clause}
 use Rattle.param_files.specs.PrintedLines.{value_of}
-use Rattle.param_files.specs.Reading.{numbered_param, params_in, is_condition, is_clause, parameter_rules, fault_after, statement_fault}
+use Rattle.param_files.specs.Reading.{numbered_param, params_in, is_condition, is_clause, parameter_line_rules, fault_after, statement_fault}
 use Rattle.param_files.specs.Reading
 use Rattle.param_files.proofs.LineTokens.{param_stated, condition_stated, pick_stated, clause_stated, all_stated}
 use Rattle.param_files.proofs.SoundParams.{IsSoundParam, sound_param, sound_params, names_apart}
@@ -66,7 +66,7 @@ accept_params earlier given place (p ∷ later) same size h =
     let few = subst (λ n. (nat_lt n Limits.max_params && nat_le (length p.values) Limits.max_values) ≡ true) size holds.0 in
     let new = ap not (name_among p.name (params_in earlier) ∙ ap (list_any (bytes_eq p.name)) (sym same)) ∙ holds.1.1.0 in
     let among = list_any_at (bytes_eq default) p.values p.default [] sound.default ((bytes_eq-Decides default default).1 refl) in
-    let kept = none_broken (parameter_rules (params_in earlier) p.name p.values default) (few, (new, (sound.differ, (among, tt)))) in
+    let kept = none_broken (parameter_line_rules (params_in earlier) p.name p.values default) (few, (new, (sound.differ, (among, tt)))) in
     let names_more = ap (λ ns. ns ++ p.name ∷ []) same ∙ sym (map_push (λ q. q.name) (params_in earlier) next) ∙ ap names (sym pushed) in
     let one_later = ap (λ n. n + 1) size ∙ sym (length_push (params_in earlier) next) ∙ ap length (sym pushed) in
     (kept, accept_params (earlier ++ param_stated p ∷ []) (given ++ p.name ∷ []) (place + 1) later names_more one_later none.1)
@@ -88,7 +88,7 @@ module _ (params : List Param) (sound : All IsSoundParam params) where
       let s = condition_stated params c in
       let few = subst (λ n. nat_lt n Limits.max_conditions ≡ true) size (rules_hold (condition_rules params place c) none.0).0 in
       let differ = condition_apart params sound c (sound_condition params place c none.0) in
-      let kept = none_broken (Reading.condition_rules (length (filter is_condition earlier)) (map (value_of params c.parent) c.values)) (few, (differ, tt)) in
+      let kept = none_broken (Reading.condition_line_rules (length (filter is_condition earlier)) (map (value_of params c.parent) c.values)) (few, (differ, tt)) in
       (kept, accept_conditions (earlier ++ s ∷ []) (place + 1) later (one_more is_condition earlier s place refl size) none.1)
 
 -- ---- clauses
@@ -104,7 +104,7 @@ module _ (params : List Param) (apart : texts_differ (names params) ≡ true) wh
       let count : length (map (pick_stated params) f.picks) ≡ length f.picks = length-map f.picks (pick_stated params) in
       let few = ap (λ n. nat_lt (length (filter is_clause earlier)) Limits.max_clauses && nat_le n Limits.max_picks) count ∙ subst (λ n. (nat_lt n Limits.max_clauses && nat_le (length f.picks) Limits.max_picks) ≡ true) size (rules_hold (clause_rules params place f) none.0).0 in
       let differ = clause_apart params f apart (sound_clause params place f none.0) in
-      let kept = none_broken (Reading.clause_rules (length (filter is_clause earlier)) (map (pick_stated params) f.picks)) (few, (differ, tt)) in
+      let kept = none_broken (Reading.clause_line_rules (length (filter is_clause earlier)) (map (pick_stated params) f.picks)) (few, (differ, tt)) in
       (kept, accept_clauses (earlier ++ s ∷ []) (place + 1) later (one_more is_clause earlier s place refl size) none.1)
 
 -- ---- all of them

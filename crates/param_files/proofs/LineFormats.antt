@@ -5,7 +5,7 @@ use Rattle.std.proofs.lemmas.List.{append_assoc}
 use Rattle.param_space.specs.declared.lists.Param.{Param}
 use Rattle.param_space.specs.declared.lists.Condition.{Condition}
 use Rattle.param_space.specs.declared.lists.Forbidden.{Forbidden}
-use Rattle.param_files.specs.PrintedLines.{with_commas, name_of, value_of, param_line, condition_line, pick_text, clause_line}
+use Rattle.param_files.specs.PrintedLines.{with_commas, param_name, value_of, param_line, condition_line, pick_text, clause_line}
 
 -- the line of a parameter
 pub param_text : (p : Param) (name values default : List ℕ) → name ≡ p.name → values ≡ with_commas p.values → default ≡ slice_index_or p.values p.default []
@@ -14,7 +14,7 @@ unfolding param_line
 param_text p name values default n v d = rw (n, v, d) (simp append_assoc)
 
 -- the line of a condition
-pub condition_text : (params : List Param) (c : Condition) (child parent values : List ℕ) → child ≡ name_of params c.child → parent ≡ name_of params c.parent → values ≡ with_commas (map (value_of params c.parent) c.values)
+pub condition_text : (params : List Param) (c : Condition) (child parent values : List ℕ) → child ≡ param_name params c.child → parent ≡ param_name params c.parent → values ≡ with_commas (map (value_of params c.parent) c.values)
     → child ++ (codes " | " ++ (parent ++ (codes " in {" ++ (values ++ codes "}\n")))) ≡ condition_line params c ++ codes "\n"
 unfolding condition_line
 condition_text params c child parent values n p v = rw (n, p, v) (simp append_assoc)

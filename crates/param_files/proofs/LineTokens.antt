@@ -15,7 +15,7 @@ use Rattle.param_space.specs.Space.{Lists}
 use Rattle.param_files.specs.declared.statements.NamedPick.{NamedPick}
 use Rattle.param_files.specs.declared.statements.Statement.{Statement}
 use Rattle.param_files.specs.declared.statements.Statement.TheVariants.{Parameter, Condition, Clause}
-use Rattle.param_files.specs.PrintedLines.{with_commas, name_of, value_of, param_line, condition_line, pick_text, clause_line}
+use Rattle.param_files.specs.PrintedLines.{with_commas, param_name, value_of, param_line, condition_line, pick_text, clause_line}
 use Rattle.param_files.specs.StatementTokens.{parted_values, parted_picks, statement_tokens, are_values, are_picks, is_form, is_pick_of_words}
 use Rattle.param_files.proofs.WrittenStatements.{all_words, all_picks}
 
@@ -25,11 +25,11 @@ param_stated p = Parameter p.name p.values (slice_index_or p.values p.default []
 
 -- a condition by its texts
 abbrev pub condition_stated : List Param → condition.Condition → Statement
-condition_stated params c = Condition (name_of params c.child) (name_of params c.parent) (map (value_of params c.parent) c.values)
+condition_stated params c = Condition (param_name params c.child) (param_name params c.parent) (map (value_of params c.parent) c.values)
 
 -- a pick by its texts
 abbrev pub pick_stated : List Param → Pick → NamedPick
-pick_stated params k = record { name = name_of params k.param; value = value_of params k.param k.value }
+pick_stated params k = record { name = param_name params k.param; value = value_of params k.param k.value }
 
 -- a clause by its texts
 abbrev pub clause_stated : List Param → Forbidden → Statement
@@ -76,8 +76,8 @@ param_tokens p h =
 pub condition_tokens : (params : List Param) (c : condition.Condition) → is_form (condition_stated params c) ≡ true → token_texts (condition_line params c) ≡ statement_tokens (condition_stated params c)
 unfolding condition_line
 condition_tokens params c h =
-    let child = name_of params c.child in
-    let parent = name_of params c.parent in
+    let child = param_name params c.child in
+    let parent = param_name params c.parent in
     let values = map (value_of params c.parent) c.values in
     let parts = and_parts (is_word child) (is_word parent && are_values values) h in
     let more = and_parts (is_word parent) (are_values values) parts.1 in
@@ -93,10 +93,10 @@ condition_tokens params c h =
 
 module _ (params : List Param) where
   -- the tokens of `name=value`
-  pick_tokens : (k : Pick) (xs : List ℕ) → (is_word (name_of params k.param) && is_word (value_of params k.param k.value)) ≡ true → ends_word xs ≡ true
-      → token_texts (pick_text params k ++ xs) ≡ name_of params k.param ∷ codes "=" ∷ value_of params k.param k.value ∷ token_texts xs
+  pick_tokens : (k : Pick) (xs : List ℕ) → (is_word (param_name params k.param) && is_word (value_of params k.param k.value)) ≡ true → ends_word xs ≡ true
+      → token_texts (pick_text params k ++ xs) ≡ param_name params k.param ∷ codes "=" ∷ value_of params k.param k.value ∷ token_texts xs
   pick_tokens k xs h ends =
-      let name = name_of params k.param in
+      let name = param_name params k.param in
       let value = value_of params k.param k.value in
       let words = and_parts (is_word name) (is_word value) h in
       ap token_texts (append_assoc name (61 ∷ value) xs)

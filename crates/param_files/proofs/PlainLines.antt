@@ -12,7 +12,7 @@ use Rattle.param_space.specs.declared.lists.Param.{Param}
 use Rattle.param_space.specs.declared.lists.Condition as condition
 use Rattle.param_space.specs.declared.lists.Pick.{Pick}
 use Rattle.param_space.specs.declared.lists.Forbidden.{Forbidden}
-use Rattle.param_files.specs.PrintedLines.{with_commas, name_of, value_of, param_line, condition_line, pick_text, clause_line}
+use Rattle.param_files.specs.PrintedLines.{with_commas, param_name, value_of, param_line, condition_line, pick_text, clause_line}
 use Rattle.param_files.specs.StatementTokens.{are_values, is_form, is_pick_of_words}
 use Rattle.param_files.proofs.WrittenStatements.{all_words, all_picks}
 use Rattle.param_files.proofs.LineTokens.{param_stated, condition_stated, pick_stated, clause_stated}
@@ -59,7 +59,7 @@ values_plain values h = commas_plain values (words_plain values (all_words value
 picks_plain : (params : List Param) (picks : List Pick) → list_all is_pick_of_words (map (pick_stated params) picks) ≡ true → list_all is_plain (map (pick_text params) picks) ≡ true
 picks_plain params [] h = refl
 picks_plain params (k ∷ later) h =
-    let name = name_of params k.param in
+    let name = param_name params k.param in
     let value = value_of params k.param k.value in
     let parts = and_parts (is_pick_of_words (pick_stated params k)) (list_all is_pick_of_words (map (pick_stated params) later)) h in
     let words = and_parts (is_word name) (is_word value) parts.0 in
@@ -83,8 +83,8 @@ param_fits p h =
 pub condition_fits : (params : List Param) (c : condition.Condition) → is_form (condition_stated params c) ≡ true → fits_line (condition_line params c) ≡ true
 unfolding condition_line
 condition_fits params c h =
-    let child = name_of params c.child in
-    let parent = name_of params c.parent in
+    let child = param_name params c.child in
+    let parent = param_name params c.parent in
     let values = map (value_of params c.parent) c.values in
     let parts = and_parts (is_word child) (is_word parent && are_values values) h in
     let more = and_parts (is_word parent) (are_values values) parts.1 in

@@ -15,7 +15,7 @@ use Rattle.param_space.specs.Space.{names, value_count}
 use Rattle.plain_text.specs.Texts.{texts_differ}
 use Rattle.param_space.specs.Faults.{param_fault, later_params_fault, param_rules}
 use Rattle.param_space.proofs.RuleLemmas.{rules_hold, none_here}
-use Rattle.param_files.specs.PrintedLines.{name_of, value_of}
+use Rattle.param_files.specs.PrintedLines.{param_name, value_of}
 use Rattle.param_files.specs.StatementTokens.{are_values, is_form}
 use Rattle.param_files.proofs.LineTokens.{param_stated}
 
@@ -55,7 +55,7 @@ named : (params : List Param) → All IsSoundParam params → All (λ t. is_word
 named params h = All-map (λ t. is_word t ≡ true) (λ p. p.name) params (All-weaker IsSoundParam (λ p. is_word p.name ≡ true) (λ p sound. sound.name) params h)
 
 -- the name of a parameter is a word
-pub name_word : (params : List Param) (i : ℕ) → All IsSoundParam params → i < length params → is_word (name_of params i) ≡ true
+pub name_word : (params : List Param) (i : ℕ) → All IsSoundParam params → i < length params → is_word (param_name params i) ≡ true
 name_word params i h inside = named params h i [] (subst (λ n. i < n) (sym (length-map params (λ p. p.name))) inside)
 
 -- the values of the parameter with this number

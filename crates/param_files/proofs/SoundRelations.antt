@@ -15,7 +15,7 @@ use Rattle.param_space.specs.Space.{names, value_count}
 use Rattle.plain_text.specs.Texts.{texts_differ}
 use Rattle.param_space.specs.Faults.{numbers_differ, condition_fault, clause_fault, condition_rules, clause_rules}
 use Rattle.param_space.proofs.RuleLemmas.{rules_hold}
-use Rattle.param_files.specs.PrintedLines.{name_of, value_of}
+use Rattle.param_files.specs.PrintedLines.{param_name, value_of}
 use Rattle.param_files.specs.StatementTokens.{are_values, is_form, is_pick_of_words}
 use Rattle.param_files.proofs.LineTokens.{condition_stated, pick_stated, clause_stated}
 use Rattle.param_files.proofs.OwnPlaces.{places_differ, texts_of_numbers}
@@ -75,7 +75,7 @@ picks_of_words params (k ∷ picks) sound h w =
     let inside = and_parts (nat_lt k.param (length params)) (list_all (λ l. nat_lt l.param (length params)) picks) h in
     let values = and_parts (nat_lt k.value (value_count params k.param)) (list_all (λ l. nat_lt l.value (value_count params l.param)) picks) w in
     and_from (is_pick_of_words (pick_stated params k)) (list_all is_pick_of_words (map (pick_stated params) picks))
-    (and_from (is_word (name_of params k.param)) (is_word (value_of params k.param k.value))
+    (and_from (is_word (param_name params k.param)) (is_word (value_of params k.param k.value))
     (name_word params k.param sound (ltb-true k.param (length params) inside.0))
     (value_word params k.param k.value sound (ltb-true k.value (value_count params k.param) values.0)))
     (picks_of_words params picks sound inside.1 values.1)
@@ -86,8 +86,8 @@ module _ (params : List Param) (sound : All IsSoundParam params) where
   condition_form c keeps =
       let values = map (value_of params c.parent) c.values in
       let words = words_of (value_of params c.parent) (value_count params c.parent) (λ v less. value_word params c.parent v sound less) c.values keeps.values in
-      and_from (is_word (name_of params c.child)) _ (name_word params c.child sound keeps.child)
-      (and_from (is_word (name_of params c.parent)) (are_values values) (name_word params c.parent sound keeps.parent)
+      and_from (is_word (param_name params c.child)) _ (name_word params c.child sound keeps.child)
+      (and_from (is_word (param_name params c.parent)) (are_values values) (name_word params c.parent sound keeps.parent)
       (and_from (nat_lt 0 (length values)) (list_all is_word values) (ap (nat_lt 0) (length-map c.values (value_of params c.parent)) ∙ keeps.some) words))
 
   -- and so can a clause
@@ -106,15 +106,15 @@ module _ (params : List Param) (sound : All IsSoundParam params) where
       (λ k i less less' other. places_differ (values_at params c.parent) k i (values_apart params c.parent sound) (subst (λ n. k < n) (sym size) less) (subst (λ n. i < n) (sym size) less') other)
       c.values keeps.values keeps.differ
 
-named_picks : (params : List Param) (picks : List Pick) → map (λ k. k.name) (map (pick_stated params) picks) ≡ map (name_of params) (map (λ k. k.param) picks)
+named_picks : (params : List Param) (picks : List Pick) → map (λ k. k.name) (map (pick_stated params) picks) ≡ map (param_name params) (map (λ k. k.param) picks)
 named_picks params [] = refl
-named_picks params (k ∷ picks) = ap (λ ts. name_of params k.param ∷ ts) (named_picks params picks)
+named_picks params (k ∷ picks) = ap (λ ts. param_name params k.param ∷ ts) (named_picks params picks)
 
 -- the names of a clause differ
 pub clause_apart : (params : List Param) (f : Forbidden) → texts_differ (names params) ≡ true → IsSoundClause params f → texts_differ (map (λ k. k.name) (map (pick_stated params) f.picks)) ≡ true
 clause_apart params f apart keeps =
     let size = length-map params (λ p. p.name) in
     ap texts_differ (named_picks params f.picks)
-    ∙ texts_of_numbers (name_of params) (length params)
+    ∙ texts_of_numbers (param_name params) (length params)
     (λ k i less less' other. places_differ (names params) k i apart (subst (λ n. k < n) (sym size) less) (subst (λ n. i < n) (sym size) less') other)
     (map (λ k. k.param) f.picks) (list_all-map (λ v. nat_lt v (length params)) (λ k. k.param) f.picks ∙ keeps.named) keeps.differ

@@ -13,7 +13,7 @@ use Rattle.param_space.specs.declared.lists.Forbidden.{Forbidden}
 use Rattle.param_space.specs.Space.{names, value_count}
 use Rattle.plain_text.specs.Texts.{texts_differ}
 use Rattle.param_files.specs.declared.statements.Statement.{Statement}
-use Rattle.param_files.specs.PrintedLines.{name_of, value_of}
+use Rattle.param_files.specs.PrintedLines.{param_name, value_of}
 use Rattle.param_files.specs.Reading.{before, all_some, param_number, value_number, condition_numbered, pick_numbered, clause_numbered, NumberedRelations, with_condition, with_clause, all_numbered}
 use Rattle.param_files.proofs.LineTokens.{param_stated, condition_stated, pick_stated, clause_stated}
 use Rattle.param_files.proofs.OwnPlaces.{number_of}
@@ -33,10 +33,10 @@ number_among test params =
     ∙ ap (λ m. cond (nat_lt (position_or_len test (names params)) m) (Some (position_or_len test (names params))) None) size
 
 -- a name of a space is that of the parameter with its number
-pub param_number-name : (params : List Param) (i : ℕ) → texts_differ (names params) ≡ true → i < length params → param_number params (name_of params i) ≡ Some i
+pub param_number-name : (params : List Param) (i : ℕ) → texts_differ (names params) ≡ true → i < length params → param_number params (param_name params i) ≡ Some i
 param_number-name params i apart inside =
-    number_among (λ t. bytes_eq t (name_of params i)) params
-    ∙ number_of (λ t. bytes_eq t (name_of params i)) (names params) i apart (subst (λ n. i < n) (sym (length-map params (λ p. p.name))) inside) (λ t. refl)
+    number_among (λ t. bytes_eq t (param_name params i)) params
+    ∙ number_of (λ t. bytes_eq t (param_name params i)) (names params) i apart (subst (λ n. i < n) (sym (length-map params (λ p. p.name))) inside) (λ t. refl)
 
 -- a value of a parameter is that with its number
 pub value_number-value : (params : List Param) (p v : ℕ) → All IsSoundParam params → v < value_count params p → value_number params p (value_of params p v) ≡ Some v
@@ -54,7 +54,7 @@ all_some-map f g h (x ∷ xs) each =
 
 module _ (params : List Param) (sound : All IsSoundParam params) (apart : texts_differ (names params) ≡ true) where
   -- a condition is read back by its numbers
-  pub condition_numbered-stated : (c : Condition) → IsSoundCondition params c → condition_numbered params (name_of params c.child) (name_of params c.parent) (map (value_of params c.parent) c.values) ≡ Ok c
+  pub condition_numbered-stated : (c : Condition) → IsSoundCondition params c → condition_numbered params (param_name params c.child) (param_name params c.parent) (map (value_of params c.parent) c.values) ≡ Ok c
   unfolding condition_numbered
   condition_numbered-stated c keeps =
       let count = value_count params c.parent in
@@ -81,7 +81,7 @@ module _ (params : List Param) (sound : All IsSoundParam params) (apart : texts_
   picks_named picks h =
       let inside = AllPass-from_list_all (λ k. nat_lt k.param (length params)) picks h in
       all_some-map (λ k. param_number params k.name) (pick_stated params) (λ k. k.param) picks
-      (All-weaker (λ k. nat_lt k.param (length params) ≡ true) (λ k. param_number params (name_of params k.param) ≡ Some k.param) (λ k less. param_number-name params k.param apart (ltb-true k.param (length params) less)) picks inside)
+      (All-weaker (λ k. nat_lt k.param (length params) ≡ true) (λ k. param_number params (param_name params k.param) ≡ Some k.param) (λ k less. param_number-name params k.param apart (ltb-true k.param (length params) less)) picks inside)
 
   -- a clause is read back by its numbers
   pub clause_numbered-stated : (f : Forbidden) → IsSoundClause params f → clause_numbered params (map (pick_stated params) f.picks) ≡ Ok f

@@ -28,7 +28,7 @@ use Rattle.param_files.specs.declared.faults.ParamWhat.{ParamWhat}
 use Rattle.param_files.specs.declared.statements.NamedPick.{NamedPick}
 use Rattle.param_files.specs.declared.statements.Statement.{Statement}
 use Rattle.param_files.specs.declared.statements.Statement.TheVariants.{Nothing, Parameter, Condition, Clause}
-use Rattle.param_files.specs.Reading.{unless, of_space, numbered_param, params_in, is_condition, is_clause, parameter_rules, condition_rules, clause_rules, fault_after, statement_fault, statement_check, line_stated, all_some, param_number, value_number, condition_numbered, pick_of, pick_numbered, clause_numbered, NumberedRelations, with_condition, with_clause, all_numbered, lists_of, some_params, with_line}
+use Rattle.param_files.specs.Reading.{unless, of_space, numbered_param, params_in, is_condition, is_clause, parameter_line_rules, condition_line_rules, clause_line_rules, fault_after, statement_fault, statement_check, line_stated, all_some, param_number, value_number, condition_numbered, pick_of, pick_numbered, clause_numbered, NumberedRelations, with_condition, with_clause, all_numbered, lists_of, some_params, with_line}
 use Rattle.param_files.specs.KeptStatements.{AreFew}
 use Rattle.param_files.proofs.StatementForms.{IsFormed, line_formed}
 use Rattle.param_files.proofs.TextNumbers.{length-all_some, list_all-all_some, map-all_some, values_apart, picks_apart, param_below, value_below}
@@ -63,10 +63,10 @@ named_alike name [] = refl
 named_alike name (p ∷ ps) = ap (λ rest. bytes_eq name p.name || rest) (named_alike name ps)
 
 -- a parameter that keeps the rules of its line breaks none of a space
-param_passes : (params : List Param) (name : List ℕ) (values : List (List ℕ)) (default : List ℕ) → IsFormed (Parameter name values default) → first_broken (parameter_rules params name values default) ≡ None
+param_passes : (params : List Param) (name : List ℕ) (values : List (List ℕ)) (default : List ℕ) → IsFormed (Parameter name values default) → first_broken (parameter_line_rules params name values default) ≡ None
     → param_fault (map (λ p. p.name) params) (length params) (numbered_param name values default) ≡ None
 param_passes params name values default formed h =
-    let kept = rules_hold (parameter_rules params name values default) h in
+    let kept = rules_hold (parameter_line_rules params name values default) h in
     let before = found_before (bytes_eq default) values kept.1.1.1.0 in
     let below : nat_lt (position_or_len (bytes_eq default) values) (length values) ≡ true = grind (arith, nat_tests, before) in
     let words = formed.1.1 in
@@ -134,7 +134,7 @@ passed_more stated line (Parameter name values default) passed formed h =
     }
 passed_more stated line (Condition child parent values) passed formed h =
     let s = Condition child parent values in
-    let kept = rules_hold (condition_rules (length (filter is_condition (map (λ x. x.1) stated))) values) h in
+    let kept = rules_hold (condition_line_rules (length (filter is_condition (map (λ x. x.1) stated))) values) h in
     let first = kept.0 in
     let room : length (filter is_condition (map (λ x. x.1) stated)) < Limits.max_conditions = grind (arith, nat_tests, first) in
     let same : params_in (map (λ x. x.1) (stated ++ (line, s) ∷ [])) ≡ params_in (map (λ x. x.1) stated) = params_then stated line s ∙ append-nil (params_in (map (λ x. x.1) stated)) in
@@ -146,7 +146,7 @@ passed_more stated line (Condition child parent values) passed formed h =
     }
 passed_more stated line (Clause picks) passed formed h =
     let s = Clause picks in
-    let kept = rules_hold (clause_rules (length (filter is_clause (map (λ x. x.1) stated))) picks) h in
+    let kept = rules_hold (clause_line_rules (length (filter is_clause (map (λ x. x.1) stated))) picks) h in
     let limits = and_parts (nat_lt (length (filter is_clause (map (λ x. x.1) stated))) Limits.max_clauses) (nat_le (length picks) Limits.max_picks) kept.0 in
     let room : length (filter is_clause (map (λ x. x.1) stated)) < Limits.max_clauses = ltb-true _ _ limits.0 in
     let short : length picks ≤ Limits.max_picks = leb-true _ _ limits.1 in
@@ -202,7 +202,7 @@ condition_passes params child parent values c place good h room =
         let most : nat_lt place Limits.max_conditions ≡ true = grind (arith, nat_tests, room) in
         let first = good.0 in
         let some : nat_lt 0 (length vs) ≡ true = grind (arith, nat_tests, size, first) in
-        none_broken (Faults.condition_rules params place (record { child = i; parent = j; values = vs }))
+        none_broken (Faults.condition_line_rules params place (record { child = i; parent = j; values = vs }))
         (most, (some, (values_apart params j values vs read good.1, (and_from (nat_lt i (length params)) (nat_lt j (length params)) child_below parent_below, (list_all-all_some (value_number params j) (λ v. nat_lt v (value_count params j)) values vs (λ value n. value_below params j value n) read, tt)))))
 
     with_values : (i j : ℕ) (o : Option (List ℕ)) → nat_lt i (length params) ≡ true → nat_lt j (length params) ≡ true → all_some (value_number params j) values ≡ o
@@ -248,7 +248,7 @@ clause_passes params picks f place good h room = by (all_some (λ k. param_numbe
         let most : (nat_lt place Limits.max_clauses && nat_le (length numbers) Limits.max_picks) ≡ true = grind (arith, nat_tests, room, size, short) in
         let some : nat_lt 0 (length numbers) ≡ true = grind (arith, nat_tests, size, first) in
         let same : map (λ k. k.param) numbers ≡ ns = map-all_some (λ k. param_number params k.name) (pick_numbered params) (λ k. k.param) picks ns numbers (λ k n e. (pick_known params k n e).0) names read in
-        none_broken (Faults.clause_rules params place (record { picks = numbers })) (
+        none_broken (Faults.clause_line_rules params place (record { picks = numbers })) (
           most,
           (
             some,

@@ -27,7 +27,7 @@ use Rattle.param_files.specs.declared.statements.Statement.TheVariants.{Nothing,
 use Rattle.param_files.specs.Faults.{fault_of}
 use Rattle.param_files.specs.Grammar.{is_nothing, clause_of, condition_of, parameter_of, or_form, statement_of}
 use Rattle.param_files.specs.StatementTokens.{statement_tokens, is_form, States, IsStatement, AreStatements, IsFormless}
-use Rattle.param_files.specs.Reading.{unless, of_space, space_fault_in, params_in, statement_fault, statement_check, line_stated, with_line, condition_numbered, clause_numbered, NumberedRelations, with_condition, with_clause, all_numbered, lists_of, line_of, breach_fault, without_fault, some_params, space_stated, params_read}
+use Rattle.param_files.specs.Reading.{unless, of_space, space_fault_in, params_in, statement_fault, statement_check, line_stated, with_line, condition_numbered, clause_numbered, NumberedRelations, with_condition, with_clause, all_numbered, lists_of, list_line, breach_fault, without_fault, some_params, space_stated, params_read}
 use Rattle.param_files.proofs.WrittenStatements.{statement_of-written}
 use Rattle.param_files.proofs.WrittenTokens.{written-statement_of}
 
@@ -149,7 +149,7 @@ space_formed number stated h = by (params_in (map (λ s. s.1) stated)) h
     whole : (params : List Param) (r : Result NumberedRelations (LineFault ParamWhat)) → (r ≡ Err (form_fault number) → ⊥)
         → (r >>= λ numbered. without_fault (option_map (λ b. breach_fault numbered b.part b.place b.what) (whole_fault (lists_of params numbered))) (lists_of params numbered)) ≡ Err (form_fault number) → ⊥
     whole params (Err fault) formed h = formed (ap Err (what_of fault (form_fault number) h))
-    whole params (Ok numbered) formed h = last (lists_of params numbered) (option_map (λ b. breach_fault numbered b.part b.place b.what) (whole_fault (lists_of params numbered))) (no_breach_fault number (whole_fault (lists_of params numbered)) (λ b. line_of numbered.condition_lines numbered.clause_lines b.part b.place) (λ b. b.what)) h
+    whole params (Ok numbered) formed h = last (lists_of params numbered) (option_map (λ b. breach_fault numbered b.part b.place b.what) (whole_fault (lists_of params numbered))) (no_breach_fault number (whole_fault (lists_of params numbered)) (λ b. list_line numbered.condition_lines numbered.clause_lines b.part b.place) (λ b. b.what)) h
 
     by : (params : List Param) → (some_params params >>= λ ps. all_numbered ps stated >>= λ numbered. without_fault (option_map (λ b. breach_fault numbered b.part b.place b.what) (whole_fault (lists_of ps numbered))) (lists_of ps numbered)) ≡ Err (form_fault number) → ⊥
     by [] h = no_space_fault 0 number NoParameters h

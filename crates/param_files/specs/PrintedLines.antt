@@ -14,8 +14,8 @@ with_commas (t ∷ []) = t
 with_commas (t ∷ u ∷ later) = t ++ (codes ", " ++ with_commas (u ∷ later))
 
 -- the name of the parameter with this number
-abbrev pub name_of : List Param → ℕ → List ℕ
-name_of params p = slice_index_or (map (λ q. q.name) params) p []
+abbrev pub param_name : List Param → ℕ → List ℕ
+param_name params p = slice_index_or (map (λ q. q.name) params) p []
 
 -- a value of the parameter with this number
 abbrev pub value_of : List Param → ℕ → ℕ → List ℕ
@@ -28,12 +28,12 @@ param_line p = p.name ++ (codes " {" ++ (with_commas p.values ++ (codes "} [" ++
 -- `child | parent in {v1, v2}`
 unfoldable pub condition_line : List Param → Condition → List ℕ
 condition_line params c =
-    name_of params c.child ++ (codes " | " ++ (name_of params c.parent ++ (codes " in {"
+    param_name params c.child ++ (codes " | " ++ (param_name params c.parent ++ (codes " in {"
     ++ (with_commas (map (value_of params c.parent) c.values) ++ codes "}"))))
 
 -- `name=value`
 abbrev pub pick_text : List Param → Pick → List ℕ
-pick_text params k = name_of params k.param ++ (codes "=" ++ value_of params k.param k.value)
+pick_text params k = param_name params k.param ++ (codes "=" ++ value_of params k.param k.value)
 
 -- `{name=value, name=value}`
 unfoldable pub clause_line : List Param → Forbidden → List ℕ

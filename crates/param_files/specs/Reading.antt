@@ -70,8 +70,8 @@ is_clause (Condition child parent values) = false
 is_clause (Clause picks) = true
 
 -- the rules of a line that a parameter keeps, after these
-abbrev pub parameter_rules : List Param → List ℕ → List (List ℕ) → List ℕ → List (Bool × SpaceWhat)
-parameter_rules params name values default =
+abbrev pub parameter_line_rules : List Param → List ℕ → List (List ℕ) → List ℕ → List (Bool × SpaceWhat)
+parameter_line_rules params name values default =
     (nat_lt (length params) Limits.max_params && nat_le (length values) Limits.max_values, TooMany)
     ∷ (not (list_any (λ p. bytes_eq name p.name) params), DoubleName)
     ∷ (texts_differ values, DoubleValue)
@@ -79,15 +79,15 @@ parameter_rules params name values default =
     ∷ []
 
 -- the rules of a line that a condition with these values keeps, after so many
-abbrev pub condition_rules : ℕ → List (List ℕ) → List (Bool × SpaceWhat)
-condition_rules conditions values =
+abbrev pub condition_line_rules : ℕ → List (List ℕ) → List (Bool × SpaceWhat)
+condition_line_rules conditions values =
     (nat_lt conditions Limits.max_conditions, TooMany)
     ∷ (texts_differ values, DoubleValue)
     ∷ []
 
 -- the rules of a line that a clause keeps, after so many
-abbrev pub clause_rules : ℕ → List NamedPick → List (Bool × SpaceWhat)
-clause_rules clauses picks =
+abbrev pub clause_line_rules : ℕ → List NamedPick → List (Bool × SpaceWhat)
+clause_line_rules clauses picks =
     (nat_lt clauses Limits.max_clauses && nat_le (length picks) Limits.max_picks, TooMany)
     ∷ (texts_differ (map (λ k. k.name) picks), DoubleName)
     ∷ []
@@ -95,9 +95,9 @@ clause_rules clauses picks =
 -- the first rule of a line that a statement breaks, after these parameters and so many conditions and clauses
 unfoldable pub fault_after : List Param → ℕ → ℕ → Statement → Option SpaceWhat
 fault_after params conditions clauses Nothing = None
-fault_after params conditions clauses (Parameter name values default) = first_broken (parameter_rules params name values default)
-fault_after params conditions clauses (Condition child parent values) = first_broken (condition_rules conditions values)
-fault_after params conditions clauses (Clause picks) = first_broken (clause_rules clauses picks)
+fault_after params conditions clauses (Parameter name values default) = first_broken (parameter_line_rules params name values default)
+fault_after params conditions clauses (Condition child parent values) = first_broken (condition_line_rules conditions values)
+fault_after params conditions clauses (Clause picks) = first_broken (clause_line_rules clauses picks)
 
 -- the first rule of a line that a statement breaks, after these statements
 abbrev pub statement_fault : List Statement → Statement → Option SpaceWhat
@@ -200,15 +200,15 @@ abbrev pub lists_of : List Param → NumberedRelations → Lists
 lists_of params numbered = space_lists params numbered.conditions numbered.clauses
 
 -- the line of an element of the lists, where these are the lines of the conditions and of the clauses; 0 for one of another list
-abbrev pub line_of : List ℕ → List ℕ → Part → ℕ → ℕ
-line_of condition_lines clause_lines part.Param place = 0
-line_of condition_lines clause_lines part.Condition place = slice_index condition_lines place
-line_of condition_lines clause_lines part.Forbidden place = slice_index clause_lines place
-line_of condition_lines clause_lines part.Whole place = 0
+abbrev pub list_line : List ℕ → List ℕ → Part → ℕ → ℕ
+list_line condition_lines clause_lines part.Param place = 0
+list_line condition_lines clause_lines part.Condition place = slice_index condition_lines place
+list_line condition_lines clause_lines part.Forbidden place = slice_index clause_lines place
+list_line condition_lines clause_lines part.Whole place = 0
 
 -- a breach of these lists, by its parts, with its line
 abbrev pub breach_fault : NumberedRelations → Part → ℕ → SpaceWhat → LineFault ParamWhat
-breach_fault numbered part place what = space_fault_in (line_of numbered.condition_lines numbered.clause_lines part place) what
+breach_fault numbered part place what = space_fault_in (list_line numbered.condition_lines numbered.clause_lines part place) what
 
 -- the value, or else the fault that there is, with its line
 abbrev pub without_fault : {A : Type 0} → Option (LineFault ParamWhat) → A → Result A (LineFault ParamWhat)

@@ -4,7 +4,7 @@ ghost use Rattle.std.specs.List.{list_any};
 ghost use Rattle.plain_text.specs.Texts;
 ghost use Rattle.param_space.specs.Faults.{first_broken};
 ghost use Rattle.param_space.specs.Limits;
-ghost use Rattle.param_files.specs.Reading.{parameter_rules, condition_rules, clause_rules};
+ghost use Rattle.param_files.specs.Reading.{parameter_line_rules, condition_line_rules, clause_line_rules};
 
 use crate::statements::NamedPick;
 use objective::Memory;
@@ -48,7 +48,7 @@ pub(crate) fn param_fault(
     values: &[Text],
     default: &str,
 ) -> Result<Option<SpaceWhat>, Memory>
-    ensures value { IfOk result (λ r. r ≡ first_broken (parameter_rules params.now name.now values.now default.now)) }
+    ensures value { IfOk result (λ r. r ≡ first_broken (parameter_line_rules params.now name.now values.now default.now)) }
     ensures few { IfOk result (λ r. r ≡ None → length values.now ≤ Limits.max_values) }
 {
     if params.len() >= MAX_PARAMS || values.len() > MAX_VALUES {
@@ -72,7 +72,7 @@ pub(crate) fn condition_fault(
     conditions: usize,
     values: &[Text],
 ) -> Result<Option<SpaceWhat>, Memory>
-    ensures value { IfOk result (λ r. r ≡ first_broken (condition_rules conditions values.now)) }
+    ensures value { IfOk result (λ r. r ≡ first_broken (condition_line_rules conditions values.now)) }
     ensures few { IfOk result (λ r. r ≡ None → conditions ≤ Limits.max_conditions) }
 {
     if conditions >= MAX_CONDITIONS {
@@ -86,7 +86,7 @@ pub(crate) fn condition_fault(
 
 /// The first rule that a clause breaks, after so many clauses.
 pub(crate) fn clause_fault(clauses: usize, picks: &[NamedPick]) -> Option<SpaceWhat>
-    ensures value { result ≡ first_broken (clause_rules clauses picks.now) }
+    ensures value { result ≡ first_broken (clause_line_rules clauses picks.now) }
     ensures few { result ≡ None → clauses ≤ Limits.max_clauses }
 {
     if clauses >= MAX_CLAUSES || picks.len() > MAX_PICKS {

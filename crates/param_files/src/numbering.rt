@@ -91,7 +91,7 @@ impl NumberedRelations {
 /// The line of an element of the lists, by the lines of the conditions and of the clauses;
 /// 0 for one of another list.
 pub(crate) fn line_of(condition_lines: &[u32], clause_lines: &[u32], part: Part, place: u32) -> u32
-    ensures { result ≡ Reading.line_of condition_lines.now clause_lines.now part place }
+    ensures { result ≡ Reading.list_line condition_lines.now clause_lines.now part place }
 {
     match part {
         Part::Param => 0,

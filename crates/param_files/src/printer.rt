@@ -23,7 +23,7 @@ fn text_at(texts: &[Text], number: u16) -> &str
 
 /// The name of the parameter with this number; an empty one where there is none.
 fn name_at(params: &[Param], number: u16) -> &str
-    ensures { result.now ≡ PrintedLines.name_of params.now number }
+    ensures { result.now ≡ PrintedLines.param_name params.now number }
 {
     match params.get(usize::from(number)) {
         Some(param) => param.name.as_str(),

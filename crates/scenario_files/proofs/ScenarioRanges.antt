@@ -10,7 +10,7 @@ use Rattle.scenario_files.specs.declared.faults.ScenarioWhat.{ScenarioWhat}
 use Rattle.scenario_files.specs.declared.filling.Essentials.{Essentials}
 use Rattle.scenario_files.specs.declared.filling.Scenario.{Scenario}
 use Rattle.scenario_files.specs.Limits.{max_length}
-use Rattle.scenario_files.specs.Ranges.{IsFrom, IsTime, IsFilled, AreWithin, IsWithin}
+use Rattle.scenario_files.specs.Ranges.{IsFrom, IsTime, IsFilled, AreWithin, IsScenarioWithin}
 use Rattle.scenario_files.specs.Scenarios.{draft_or, essentials_of, with_defaults, scenario_of}
 use Rattle.scenario_files.proofs.ValueRanges.{same_ok}
 
@@ -58,7 +58,7 @@ essentials_within (Some a) (Some t) (Some p) (Some i) e ha ht hp hi h =
     subst AreEssentialsWithin (same_ok (record { algo = a; cutoff_time = t; paramfile = p; instance_file = i }) e h)
     (record { algo = ha; cutoff_time = ht; paramfile = hp; instance_file = hi })
 
-defaults_within : (d : Draft) (e : Essentials) → AreWithin d → AreEssentialsWithin e → IsWithin (with_defaults d e)
+defaults_within : (d : Draft) (e : Essentials) → AreWithin d → AreEssentialsWithin e → IsScenarioWithin (with_defaults d e)
 defaults_within d e w v = record {
   algo = v.algo;
   execdir = default_within IsFilled d.execdir (codes ".") w.execdir refl;
@@ -78,16 +78,16 @@ defaults_within d e w v = record {
 }
 
 -- a scenario of a draft within its limits
-pub scenario_within : (d : Draft) (x : Scenario) → AreWithin d → scenario_of d ≡ Ok x → IsWithin x
+pub scenario_within : (d : Draft) (x : Scenario) → AreWithin d → scenario_of d ≡ Ok x → IsScenarioWithin x
 unfolding scenario_of
 scenario_within d x w h = by (essentials_of d.algo d.cutoff_time d.paramfile d.instance_file) refl h
   where
-    by : (r : Result Essentials ScenarioWhat) → essentials_of d.algo d.cutoff_time d.paramfile d.instance_file ≡ r → (r >>= λ e. Ok (with_defaults d e)) ≡ Ok x → IsWithin x
+    by : (r : Result Essentials ScenarioWhat) → essentials_of d.algo d.cutoff_time d.paramfile d.instance_file ≡ r → (r >>= λ e. Ok (with_defaults d e)) ≡ Ok x → IsScenarioWithin x
     by (Err what) is h = absurd (cc)
     by (Ok e) is h =
         let v = essentials_within d.algo d.cutoff_time d.paramfile d.instance_file e w.algo w.cutoff_time w.paramfile w.instance_file is in
-        subst IsWithin (same_ok (with_defaults d e) x h) (defaults_within d e w v)
+        subst IsScenarioWithin (same_ok (with_defaults d e) x h) (defaults_within d e w v)
 
 -- a scenario of two drafts within their limits
-pub filled_within : (file words : Draft) (x : Scenario) → AreWithin file → AreWithin words → scenario_of (draft_or words file) ≡ Ok x → IsWithin x
+pub filled_within : (file words : Draft) (x : Scenario) → AreWithin file → AreWithin words → scenario_of (draft_or words file) ≡ Ok x → IsScenarioWithin x
 filled_within file words x f w h = scenario_within (draft_or words file) x (draft_or_within words file w f) h

@@ -45,7 +45,7 @@ pub record AreWordsWithin (w : Words) : Type 0 where
   pub draft : AreWithin w.draft
 
 -- the values of a scenario lie within their limits
-pub record IsWithin (x : Scenario) : Type 0 where
+pub record IsScenarioWithin (x : Scenario) : Type 0 where
   pub algo : IsFilled x.algo
   pub execdir : IsFilled x.execdir
   pub cutoff_time : IsTime 1 Limits.max_cutoff x.cutoff_time

@@ -3,7 +3,7 @@ ghost use Rattle.std.specs.Prelude.{◌≡◌, Ok, IfOk, IfErr, codes};
 ghost use Rattle.std.specs.Option.{unwrap_or};
 ghost use Rattle.plain_text.specs.Faults.{IsFound};
 ghost use Rattle.scenario_files.specs.Faults.{fault_of, rule_of};
-ghost use Rattle.scenario_files.specs.Ranges.{AreWithin, IsWithin};
+ghost use Rattle.scenario_files.specs.Ranges.{AreWithin, IsScenarioWithin};
 ghost use Rattle.scenario_files.specs.Scenarios;
 
 use crate::draft::{Approach, Draft, Overall, PairOrder, RunObj};
@@ -160,7 +160,7 @@ fn scenario_of(alloc: Global, draft: Draft) -> Result<Scenario, Refused>
 pub fn fill(alloc: Global, file: Draft, words: Draft) -> Result<Scenario, ScenarioFault>
     ensures value { IfOk result (λ s. Scenarios.filled_scenario file words ≡ Ok s) }
     ensures fault { IfErr result (λ e. IsFound (fault_of e) (Scenarios.filled_scenario file words)) }
-    ensures limits { AreWithin file → AreWithin words → IfOk result IsWithin }
+    ensures limits { AreWithin file → AreWithin words → IfOk result IsScenarioWithin }
 {
     match scenario_of(alloc, draft_or(words, file)) {
         Ok(scenario) => Ok(scenario),

@@ -10,7 +10,7 @@ use Rattle.std.proofs.lemmas.List.Elements.{All-from_get_or, recursion_from_All}
 use Rattle.std.proofs.lemmas.List.FromFn.{length-range_with_len, map-range_with_len_more, get_or-range_with_len}
 use Rattle.std.proofs.lemmas.List.Sorted.{IsPermutation-refl, IsPermutation-cons, IsPermutation-trans, IsPermutation-swap, IsPermutation-map, length_permutation, All-permutation, sum_by-IsPermutation, ranks_by, sorted_far}
 use Rattle.std.proofs.lemmas.List.Sums.{sum_by-cons}
-use Rattle.seeded_order.specs.Draws.{word_of, stands_before, with_pair, sorted_pairs, numbered_words, order_of}
+use Rattle.seeded_order.specs.Draws.{word_of, stands_before, with_drawn_pair, sorted_pairs, numbered_words, order_of}
 
 -- no pair of the list stands before this one
 abbrev pub NoneBefore : ℕ × ℕ → List (ℕ × ℕ) → Type 0
@@ -85,10 +85,10 @@ one_order (p ∷ ps) (q ∷ qs) h k same =
     let later : ps ≡ qs = one_order ps qs h.1 k.1 rest in
     cc
 
-none_before_placed : (p q : ℕ × ℕ) (ps : List (ℕ × ℕ)) → stands_before p q ≡ false → NoneBefore q ps → NoneBefore q (with_pair p ps)
+none_before_placed : (p q : ℕ × ℕ) (ps : List (ℕ × ℕ)) → stands_before p q ≡ false → NoneBefore q ps → NoneBefore q (with_drawn_pair p ps)
 none_before_placed p q [] h k = (h, tt)
 none_before_placed p q (r ∷ later) h k =
-    elim (stands_before p r) as (λ b. NoneBefore q (cond b (p ∷ r ∷ later) (r ∷ with_pair p later))) [
+    elim (stands_before p r) as (λ b. NoneBefore q (cond b (p ∷ r ∷ later) (r ∷ with_drawn_pair p later))) [
       | true ↦ (h, k)
       | false ↦ (k.0, none_before_placed p q later h k.1)
     ]
@@ -97,10 +97,10 @@ none_before_further : (p q : ℕ × ℕ) (ps : List (ℕ × ℕ)) → stands_bef
 none_before_further p q [] h k = tt
 none_before_further p q (r ∷ later) h k = (before_further p q r h k.0, none_before_further p q later h k.1)
 
-placed_ascends : (p : ℕ × ℕ) (ps : List (ℕ × ℕ)) → Ascends ps → Ascends (with_pair p ps)
+placed_ascends : (p : ℕ × ℕ) (ps : List (ℕ × ℕ)) → Ascends ps → Ascends (with_drawn_pair p ps)
 placed_ascends p [] h = (tt, tt)
 placed_ascends p (q ∷ later) h =
-    let Goal : Bool → Type 0 = λ b. stands_before p q ≡ b → Ascends (cond b (p ∷ q ∷ later) (q ∷ with_pair p later)) in
+    let Goal : Bool → Type 0 = λ b. stands_before p q ≡ b → Ascends (cond b (p ∷ q ∷ later) (q ∷ with_drawn_pair p later)) in
     let cases : Goal (stands_before p q) = elim (stands_before p q) as Goal [
       | true ↦ (λ e. ((before_not_after p q e, none_before_further p q later e h.0), h))
       | false ↦ (λ e. (none_before_placed p q later e h.0, placed_ascends p later h.1))
@@ -111,19 +111,19 @@ pub sorted_ascends : (ps : List (ℕ × ℕ)) → Ascends (sorted_pairs ps)
 sorted_ascends [] = tt
 sorted_ascends (p ∷ later) = placed_ascends p (sorted_pairs later) (sorted_ascends later)
 
-placed_permutes : (p : ℕ × ℕ) (ps : List (ℕ × ℕ)) → IsPermutation (p ∷ ps) (with_pair p ps)
+placed_permutes : (p : ℕ × ℕ) (ps : List (ℕ × ℕ)) → IsPermutation (p ∷ ps) (with_drawn_pair p ps)
 placed_permutes p [] = IsPermutation-refl (p ∷ [])
 placed_permutes p (q ∷ later) =
     let swapped : IsPermutation (p ∷ q ∷ later) (q ∷ p ∷ later) = IsPermutation-swap (p ∷ q ∷ later) (q ∷ p ∷ later) 0 1 (omega arith) (omega arith) refl in
-    elim (stands_before p q) as (λ b. IsPermutation (p ∷ q ∷ later) (cond b (p ∷ q ∷ later) (q ∷ with_pair p later))) [
+    elim (stands_before p q) as (λ b. IsPermutation (p ∷ q ∷ later) (cond b (p ∷ q ∷ later) (q ∷ with_drawn_pair p later))) [
       | true ↦ IsPermutation-refl (p ∷ q ∷ later)
-      | false ↦ IsPermutation-trans (p ∷ q ∷ later) (q ∷ p ∷ later) (q ∷ with_pair p later) swapped (IsPermutation-cons q (p ∷ later) (with_pair p later) (placed_permutes p later))
+      | false ↦ IsPermutation-trans (p ∷ q ∷ later) (q ∷ p ∷ later) (q ∷ with_drawn_pair p later) swapped (IsPermutation-cons q (p ∷ later) (with_drawn_pair p later) (placed_permutes p later))
     ]
 
 -- sorting only moves pairs
 pub sorted_permutes : (ps : List (ℕ × ℕ)) → IsPermutation ps (sorted_pairs ps)
 sorted_permutes [] = IsPermutation-refl []
-sorted_permutes (p ∷ later) = IsPermutation-trans (p ∷ later) (p ∷ sorted_pairs later) (with_pair p (sorted_pairs later)) (IsPermutation-cons p later (sorted_pairs later) (sorted_permutes later)) (placed_permutes p (sorted_pairs later))
+sorted_permutes (p ∷ later) = IsPermutation-trans (p ∷ later) (p ∷ sorted_pairs later) (with_drawn_pair p (sorted_pairs later)) (IsPermutation-cons p later (sorted_pairs later) (sorted_permutes later)) (placed_permutes p (sorted_pairs later))
 
 -- how two pairs compare: by the first, ties by the second
 abbrev pub compared : ℕ × ℕ → ℕ × ℕ → Ordering

@@ -21,14 +21,14 @@ abbrev pub stands_before : ℕ × ℕ → ℕ × ℕ → Bool
 stands_before p q = nat_lt p.0 q.0 || ((p.0 == q.0) && nat_lt p.1 q.1)
 
 -- a pair put into its place among sorted pairs
-abbrev pub with_pair : ℕ × ℕ → List (ℕ × ℕ) → List (ℕ × ℕ)
-with_pair p [] = p ∷ []
-with_pair p (q ∷ later) = if stands_before p q then p ∷ q ∷ later else q ∷ with_pair p later
+abbrev pub with_drawn_pair : ℕ × ℕ → List (ℕ × ℕ) → List (ℕ × ℕ)
+with_drawn_pair p [] = p ∷ []
+with_drawn_pair p (q ∷ later) = if stands_before p q then p ∷ q ∷ later else q ∷ with_drawn_pair p later
 
 -- the pairs in order
 abbrev pub sorted_pairs : List (ℕ × ℕ) → List (ℕ × ℕ)
 sorted_pairs [] = []
-sorted_pairs (p ∷ later) = with_pair p (sorted_pairs later)
+sorted_pairs (p ∷ later) = with_drawn_pair p (sorted_pairs later)
 
 -- the numbers below n, each with the word at it
 abbrev pub numbered_words : ℕ → ℕ → ℕ → List (ℕ × ℕ)

@@ -36,7 +36,7 @@ by_call words given (Some c) read r e h = ap (λ w. words_reading w >>= read c) 
 
 -- words and files that state a problem
 pub stated_by : (call : Promises.Call) (given : Words) (problem : Problem) → words_read call.words ≡ Ok given
-    → IfSome call.contents (λ c. problem_by c given ≡ Reads problem) → Promises.States call problem
+    → IfSome call.contents (λ c. problem_by c given ≡ Reads problem) → Promises.StatesProblem call problem
 stated_by call given problem e h = record {
   called = record { given = given; reads = e };
   reads = by_call call.words given call.contents problem_by (Reads problem) e h;
@@ -71,7 +71,7 @@ ending_refused call taking result (refusal.ReadFault kind name) given e cause sa
 ending_refused call taking result refusal.Memory given e cause said = record { end = status.NoMemory; text = _; ends = Promises.no_memory refl refl; said = said }
 
 -- a problem with too few seats
-pub ending_unseated : (call : Promises.Call) (taking : Promises.Taking) (result : Status) (problem : Problem) (asked seats : ℕ) → Promises.States call problem
+pub ending_unseated : (call : Promises.Call) (taking : Promises.Taking) (result : Status) (problem : Problem) (asked seats : ℕ) → Promises.StatesProblem call problem
     → asked ≡ problem.rules.workers → call.seats ≡ seats → seats < asked
     → Promises.Reported taking result (status.TooFewSeats asked seats) (seats_line asked seats) → Promises.Ending call taking result
 ending_unseated call taking result problem asked seats stated workers all fewer said =
@@ -81,13 +81,13 @@ ending_unseated call taking result problem asked seats stated workers all fewer 
     (Promises.unseated problem refl refl stated (omega (arith, workers, all, fewer))) (subst Q (sym all) (subst P workers said))
 
 -- FocusedILS is asked for
-pub ending_focused : (call : Promises.Call) (taking : Promises.Taking) (result : Status) (problem : Problem) → Promises.States call problem → Promises.IsSeated call problem
+pub ending_focused : (call : Promises.Call) (taking : Promises.Taking) (result : Status) (problem : Problem) → Promises.StatesProblem call problem → Promises.IsSeated call problem
     → problem.approach ≡ Focused → Promises.Said taking status.Unbuilt result unbuilt_line → Promises.Ending call taking result
 ending_focused call taking result problem stated seated focused said =
     record { end = status.Unbuilt; text = _; ends = Promises.unbuilt problem refl refl stated seated focused; said = said }
 
 -- the search was run
-pub ending_ran : (call : Promises.Call) (taking : Promises.Taking) (result : Status) (problem : Problem) (running : Promises.Running) → Promises.States call problem → Promises.IsSeated call problem
+pub ending_ran : (call : Promises.Call) (taking : Promises.Taking) (result : Status) (problem : Problem) (running : Promises.Running) → Promises.StatesProblem call problem → Promises.IsSeated call problem
     → problem.approach ≡ Basic → call.running ≡ running → Promises.RunEnding running problem taking result → Promises.Ending call taking result
 ending_ran call taking result problem running stated seated basic same ran =
     let P : Promises.Running → Type 0 = λ r. Promises.EndsRunning r problem ran.end ran.text in

@@ -14,7 +14,7 @@ use Rattle.ils_face.specs.Steady.{IsSteady, IsAsk}
 use Rattle.ils_face.specs.Follows.{Follows, sums_under}
 use Rattle.ils_face.specs.Traces.{question_of, IsReplyBy, IsUnknown, IsFinal}
 use Rattle.ils_face.proofs.Traces.{IsTraced, traced_first, traced_on, traced_final, traced_abort}
-use Rattle.tuner.specs.SearchEnds.{IsSound}
+use Rattle.tuner.specs.SearchEnds.{IsSoundView}
 
 -- the ask is shown under these rules after these replies, which fit
 pub record IsPresent (shown : Rules → List Reply → View) (rules : Rules) (replies : List Reply) (ask : Ask) : Type 0 where
@@ -36,7 +36,7 @@ present_ask shown rules replies ask steady h =
     subst P (sym h.value) ((steady rules h.ruled).asks replies h.fitting)
 
 pub present_sound : (shown : Rules → List Reply → View) (rules : Rules) (replies : List Reply) (ask : Ask)
-    → ((r : Rules) → AreRules r → IsSteady r (shown r)) → IsPresent shown rules replies ask → IsSound rules (shown rules replies)
+    → ((r : Rules) → AreRules r → IsSteady r (shown r)) → IsPresent shown rules replies ask → IsSoundView rules (shown rules replies)
 present_sound shown rules replies ask steady h =
     let laws = steady rules h.ruled in
     record { entries = laws.entries replies h.fitting; last = laws.incumbent replies h.fitting }

@@ -23,7 +23,7 @@ same_output space run entries last ran =
     ap (λ es. all_lines space es last) ran.all ∙ ap (all_lines space (map (λ added. added.entry) run.entries)) ran.end
 
 -- what the runs' end says of the answer, where it was written whole
-ran_cause : (call : Promises.Call) (taking : Promises.Taking) (problem : Problem) (end : Status) (text : List ℕ) → Promises.States call problem → Promises.IsSeated call problem → problem.approach ≡ Basic
+ran_cause : (call : Promises.Call) (taking : Promises.Taking) (problem : Problem) (end : Status) (text : List ℕ) → Promises.StatesProblem call problem → Promises.IsSeated call problem → problem.approach ≡ Basic
     → Promises.EndsRunning call.running problem end text → taking.after ≡ after_taking taking.before text → Promises.HasCause call taking end
 ran_cause call taking problem end text stated seated basic (Promises.finished entries last e t ran) taken =
     let P : Status → Type 0 = Promises.HasCause call taking in
@@ -120,13 +120,13 @@ pub record AreRead (call : Promises.Call) (r : Reading Problem) : Type 0 where
 same_reading : (call : Promises.Call) (r q : Reading Problem) → AreRead call r → IfSome call.contents (λ c. problem_of call.words c ≡ q) → r ≡ q
 same_reading call r q a h = sym a.reads ∙ told_reading call.contents a.contents (problem_of call.words) q a.told h
 
-same_problem : (call : Promises.Call) (p q : Problem) → AreRead call (Reads p) → Promises.States call q → p ≡ q
+same_problem : (call : Promises.Call) (p q : Problem) → AreRead call (Reads p) → Promises.StatesProblem call q → p ≡ q
 same_problem call p q a stated = let e = same_reading call (Reads p) (Reads q) a stated.reads in cc
 
 not_bad : (call : Promises.Call) (p : Problem) (kind : FileKind) (line : ℕ) (what : What) → AreRead call (Reads p) → Promises.IsBadFile call kind line what → ⊥
 not_bad call p kind line what a h = let e = same_reading call (Reads p) (Bad kind h.name line what) a h.first in cc
 
-not_stated : (call : Promises.Call) (p : Problem) (kind : FileKind) (name : List ℕ) (line : ℕ) (what : What) → AreRead call (Bad kind name line what) → Promises.States call p → ⊥
+not_stated : (call : Promises.Call) (p : Problem) (kind : FileKind) (name : List ℕ) (line : ℕ) (what : What) → AreRead call (Bad kind name line what) → Promises.StatesProblem call p → ⊥
 not_stated call p kind name line what a stated = let e = same_reading call (Bad kind name line what) (Reads p) a stated.reads in cc
 
 misused_called : (call : Promises.Call) (place : ℕ) → Promises.IsMisused call place → Promises.IsCalled call → ⊥

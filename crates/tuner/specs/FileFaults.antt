@@ -16,13 +16,13 @@ abbrev pub file_fault : {W : Type 0} → (W → What) → LineFault W → FileFa
 file_fault rule fault = record { line = fault.line; what = rule fault.what }
 
 -- the fault of a scenario file
-abbrev pub scenario_fault : ScenarioFault → Option FileFault
-scenario_fault fault = option_map (file_fault Scenario) (scenario_faults.fault_of fault)
+abbrev pub scenario_file_fault : ScenarioFault → Option FileFault
+scenario_file_fault fault = option_map (file_fault Scenario) (scenario_faults.fault_of fault)
 
 -- the fault of a parameter file
-abbrev pub params_fault : ParamFault → Option FileFault
-params_fault fault = option_map (file_fault Params) (param_faults.fault_of fault)
+abbrev pub param_file_fault : ParamFault → Option FileFault
+param_file_fault fault = option_map (file_fault Params) (param_faults.fault_of fault)
 
 -- the fault of an instance file
-abbrev pub instances_fault : InstanceFault → Option FileFault
-instances_fault fault = option_map (file_fault Instances) (instance_faults.fault_of fault)
+abbrev pub instance_file_fault : InstanceFault → Option FileFault
+instance_file_fault fault = option_map (file_fault Instances) (instance_faults.fault_of fault)

@@ -50,8 +50,8 @@ abbrev pub table_of : Option (Key → Outcome) → Problem → Table
 table_of truth problem config place = told_outcome truth (key_at problem config place)
 
 -- what the uncapped procedure knows of a problem
-abbrev pub setup_of : Problem → Setup
-setup_of problem = Setups.setup_of problem.rules
+abbrev pub problem_setup : Problem → Setup
+problem_setup problem = Setups.setup_of problem.rules
 
 -- the procedure of an approach
 abbrev pub procedure_of : Approach → Uncapped.Approach
@@ -60,4 +60,4 @@ procedure_of Focused = Uncapped.Focused
 
 -- the uncapped procedure over an outcome table
 abbrev pub uncapped_run : Problem → Table → Uncapped.Run
-uncapped_run problem table = Uncapped.uncapped (procedure_of problem.approach) (setup_of problem) (total_cost problem.rules.limits table)
+uncapped_run problem table = Uncapped.uncapped (procedure_of problem.approach) (problem_setup problem) (total_cost problem.rules.limits table)

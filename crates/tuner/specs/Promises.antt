@@ -78,7 +78,7 @@ pub record IsCalled (call : Call) : Type 0 where
   pub reads : words_read call.words ≡ Ok given
 
 -- the words and the files, where these are told, state this problem
-pub record States (call : Call) (problem : Problem) : Type 0 where
+pub record StatesProblem (call : Call) (problem : Problem) : Type 0 where
   pub called : IsCalled call
   pub reads : IfSome call.contents (λ contents. problem_of call.words contents ≡ Reads problem)
 
@@ -129,10 +129,10 @@ pub data Ends (call : Call) (end : Status) (text : List ℕ) : Type 0 where
       → text ≡ bad_file_line cause.name line what → Ends call end text
   unread : (kind : FileKind) (cause : IsUnread call kind) → end ≡ status.ReadFault kind → text ≡ read_fault_line cause.name → Ends call end text
   unseated : (problem : Problem) → end ≡ status.TooFewSeats problem.rules.workers call.seats → text ≡ seats_line problem.rules.workers call.seats
-      → States call problem → call.seats < problem.rules.workers → Ends call end text
+      → StatesProblem call problem → call.seats < problem.rules.workers → Ends call end text
   unbuilt : (problem : Problem) → end ≡ status.Unbuilt → text ≡ unbuilt_line
-      → States call problem → IsSeated call problem → problem.approach ≡ Focused → Ends call end text
-  ran : (problem : Problem) → States call problem → IsSeated call problem → problem.approach ≡ Basic
+      → StatesProblem call problem → IsSeated call problem → problem.approach ≡ Focused → Ends call end text
+  ran : (problem : Problem) → StatesProblem call problem → IsSeated call problem → problem.approach ≡ Basic
       → EndsRunning call.running problem end text → Ends call end text
   no_memory : end ≡ status.NoMemory → text ≡ no_memory_line → Ends call end text
 
@@ -197,15 +197,15 @@ pub record Ending (call : Call) (taking : Taking) (result : Status) : Type 0 whe
 -- uncapped procedure over the seats' truth, and nothing else
 pub record Headline (call : Call) (taking : Taking) : Type 0 where
   pub problem : Problem
-  pub stated : States call problem
+  pub stated : StatesProblem call problem
   pub seated : IsSeated call problem
   pub finished : IsSome call.running.truth → (true_run call.running problem).end ≡ Finished
   pub printed : IsSome call.running.truth → taking.after ≡ after_taking taking.before (output_of problem.rules.space (true_run call.running problem))
 
 -- the causes of Unbuilt: FocusedILS is asked for, or a child aborts
 pub data IsUnbuilt (call : Call) : Type 0 where
-  focused : (problem : Problem) → States call problem → IsSeated call problem → problem.approach ≡ Focused → IsUnbuilt call
-  aborted : (problem : Problem) → States call problem → IsSeated call problem → problem.approach ≡ Basic
+  focused : (problem : Problem) → StatesProblem call problem → IsSeated call problem → problem.approach ≡ Focused → IsUnbuilt call
+  aborted : (problem : Problem) → StatesProblem call problem → IsSeated call problem → problem.approach ≡ Basic
       → (IsSome call.running.truth → (true_run call.running problem).end ≡ Aborted) → IsUnbuilt call
 
 -- the cause of ChildFault: the count of seat 0's spawner rose, and its failed run is the one whose place and settings are printed
@@ -213,7 +213,7 @@ pub record IsChildFault (call : Call) (taking : Taking) : Type 0 where
   pub problem : Problem
   pub config : List ℕ
   pub place : ℕ
-  pub stated : States call problem
+  pub stated : StatesProblem call problem
   pub seated : IsSeated call problem
   pub sound : IsConfig problem.rules.space config
   pub in_range : IsPlace problem.rules.max_runs place
@@ -224,7 +224,7 @@ pub record IsChildFault (call : Call) (taking : Taking) : Type 0 where
 -- the cause of TooFewSeats: words and files state a problem that asks for more seats than there are
 pub record IsTooFew (call : Call) (asked given : ℕ) : Type 0 where
   pub problem : Problem
-  pub stated : States call problem
+  pub stated : StatesProblem call problem
   pub workers : asked ≡ problem.rules.workers
   pub all : given ≡ call.seats
   pub fewer : given < asked

@@ -7,7 +7,7 @@ use Rattle.tuner.specs.declared.searching.Searched.{Searched}
 use Rattle.tuner.specs.declared.searching.Searched.TheVariants.{Ended, Aborted, Failed, Memory}
 
 -- all incumbents that are shown are allowed canonical configurations
-pub record IsSound (rules : Rules) (view : View) : Type 0 where
+pub record IsSoundView (rules : Rules) (view : View) : Type 0 where
   pub entries : All (λ e. IsConfig rules.space e.config) view.entries
   pub last : IsConfig rules.space view.last.config
 
@@ -19,15 +19,15 @@ OnEnded (Failed config place) P = Unit {0}
 OnEnded Memory P = Unit {0}
 
 -- the fact, where a child aborted
-abbrev pub OnAborted : Searched → Type 0 → Type 0
-OnAborted Ended P = Unit {0}
-OnAborted Aborted P = P
-OnAborted (Failed config place) P = Unit {0}
-OnAborted Memory P = Unit {0}
+abbrev pub OnSearchAborted : Searched → Type 0 → Type 0
+OnSearchAborted Ended P = Unit {0}
+OnSearchAborted Aborted P = P
+OnSearchAborted (Failed config place) P = Unit {0}
+OnSearchAborted Memory P = Unit {0}
 
 -- the fact of the configuration and the place, where a child failed
-abbrev pub IfFailed : Searched → (List ℕ → ℕ → Type 0) → Type 0
-IfFailed Ended P = Unit {0}
-IfFailed Aborted P = Unit {0}
-IfFailed (Failed config place) P = P config place
-IfFailed Memory P = Unit {0}
+abbrev pub IfSearchFailed : Searched → (List ℕ → ℕ → Type 0) → Type 0
+IfSearchFailed Ended P = Unit {0}
+IfSearchFailed Aborted P = Unit {0}
+IfSearchFailed (Failed config place) P = P config place
+IfSearchFailed Memory P = Unit {0}

@@ -10,7 +10,7 @@ ghost use Rattle.ils_face.specs.Follows.{sums_under};
 ghost use Rattle.tuner.specs.ProblemRuns.{procedure_of, table_of};
 ghost use Rattle.tuner.specs.Lines;
 ghost use Rattle.tuner.specs.Promises.{taking_by, Reported, RunEnding};
-ghost use Rattle.tuner.specs.SearchEnds.{IsSound};
+ghost use Rattle.tuner.specs.SearchEnds.{IsSoundView};
 
 use crate::lines::{all_lines, child_fault_line};
 use crate::problem::Problem;
@@ -31,7 +31,7 @@ fn report_end<P: Search, O: Sink>(
     out: &mut O,
 ) -> Status
     requires rules { P.rules_of search.now ≡ problem.now.rules }
-    requires sound { IsSound problem.now.rules (P.shown problem.now.rules (P.replies_of search.now)) }
+    requires sound { IsSoundView problem.now.rules (P.shown problem.now.rules (P.replies_of search.now)) }
     ensures { let view = P.shown problem.now.rules (P.replies_of search.now) in Reported (taking_by O.taken O.faults O.empties out.old out.new) result Status.Ok (Lines.all_lines problem.now.rules.space view.entries view.last) }
 {
     match all_lines(alloc, &problem.rules.space, search) {

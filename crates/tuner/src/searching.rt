@@ -6,7 +6,7 @@ ghost use Rattle.uncapped.specs.Procedure.{Aborted};
 ghost use Rattle.ils_face.specs.Traces.{IsFinal};
 ghost use Rattle.tuner.specs.AskEnds.{IsFailure};
 ghost use Rattle.tuner.specs.ProblemRuns.{table_of};
-ghost use Rattle.tuner.specs.SearchEnds.{IsSound, OnEnded, OnAborted, IfFailed};
+ghost use Rattle.tuner.specs.SearchEnds.{IsSoundView, OnEnded, OnSearchAborted, IfSearchFailed};
 
 use crate::meeting::{Met, meet};
 use crate::problem::Problem;
@@ -49,10 +49,10 @@ pub(crate) fn meet_all<R: Wait, P: Search, S: Spawner>(
     ensures idle { IsTrue (S.idle spawner.new) }
     ensures counts { S.faults spawner.old ≤ S.faults spawner.new }
     ensures rules { P.rules_of search.new ≡ problem.now.rules }
-    ensures sound { OnEnded result (IsSound problem.now.rules (P.shown problem.now.rules (P.replies_of search.new))) }
+    ensures sound { OnEnded result (IsSoundView problem.now.rules (P.shown problem.now.rules (P.replies_of search.new))) }
     ensures ended { OnEnded result ((outcome : Key → Outcome) → S.truth ≡ Some outcome → IsFinal (P.shown problem.now.rules (P.replies_of search.new)) (P.plain problem.now.rules (table_of (Some outcome) problem.now))) }
-    ensures aborted { OnAborted result ((outcome : Key → Outcome) → S.truth ≡ Some outcome → (P.plain problem.now.rules (table_of (Some outcome) problem.now)).end ≡ Aborted) }
-    ensures failed { IfFailed result (λ θ place. IsFailure problem.now (S.faults spawner.old) (S.faults spawner.new) (S.failed_run spawner.new) θ place) }
+    ensures aborted { OnSearchAborted result ((outcome : Key → Outcome) → S.truth ≡ Some outcome → (P.plain problem.now.rules (table_of (Some outcome) problem.now)).end ≡ Aborted) }
+    ensures failed { IfSearchFailed result (λ θ place. IsFailure problem.now (S.faults spawner.old) (S.faults spawner.new) (S.failed_run spawner.new) θ place) }
 {
     loop {
         match meet(rt, alloc, problem, search.ask(), spawner) {

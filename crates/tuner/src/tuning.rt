@@ -4,7 +4,7 @@ ghost use Rattle.scenario_files.specs.Ranges.{AreWordsWithin};
 ghost use Rattle.scenario_files.specs.Words.{words_read};
 ghost use Rattle.tuner.specs.Lines;
 ghost use Rattle.tuner.specs.ProblemRuns.{table_of};
-ghost use Rattle.tuner.specs.Promises.{taking_by, call_by, running_by, Call, States, Ending, HasCause, Headline, IsComplete, RefusesFaulty, RefusesFocused, RefusesMisused, RefusesUnseated, ReportsMisuse, ReportsRefusal, Reported};
+ghost use Rattle.tuner.specs.Promises.{taking_by, call_by, running_by, Call, StatesProblem, Ending, HasCause, Headline, IsComplete, RefusesFaulty, RefusesFocused, RefusesMisused, RefusesUnseated, ReportsMisuse, ReportsRefusal, Reported};
 ghost use Rattle.tuner.specs.Seats.{spawner_of, first_count, first_run};
 
 use crate::finishing::run_search;
@@ -77,7 +77,7 @@ fn run_problem<R: Wait, O: Sink, S: Spawner>(
     seats: &mut [Seat<S>],
 ) -> Status
     requires { All (λ seat. IsTrue (S.idle (spawner_of seat))) seats.old }
-    ensures ending { (call : Call) → call.seats ≡ length seats.old → call.running ≡ running_by S.truth (table_of S.truth) S.faults S.failed_run seats.old seats.new → States call problem.now → Ending call (taking_by O.taken O.faults O.empties out.old out.new) result }
+    ensures ending { (call : Call) → call.seats ≡ length seats.old → call.running ≡ running_by S.truth (table_of S.truth) S.faults S.failed_run seats.old seats.new → StatesProblem call problem.now → Ending call (taking_by O.taken O.faults O.empties out.old out.new) result }
     ensures idle { All (λ seat. IsTrue (S.idle (spawner_of seat))) seats.new }
 {
     let workers = problem.workers();

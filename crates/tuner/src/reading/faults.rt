@@ -18,7 +18,7 @@ pub(crate) struct FileFault {
 
 /// The fault of a scenario file. None for want of memory.
 pub(crate) fn scenario_fault(fault: ScenarioFault) -> Option<FileFault>
-    ensures { result ≡ FileFaults.scenario_fault fault }
+    ensures { result ≡ FileFaults.scenario_file_fault fault }
 {
     match fault {
         ScenarioFault::At { line, what } => Some(FileFault {
@@ -31,7 +31,7 @@ pub(crate) fn scenario_fault(fault: ScenarioFault) -> Option<FileFault>
 
 /// The fault of a parameter file. None for want of memory.
 pub(crate) fn params_fault(fault: ParamFault) -> Option<FileFault>
-    ensures { result ≡ FileFaults.params_fault fault }
+    ensures { result ≡ FileFaults.param_file_fault fault }
 {
     match fault {
         ParamFault::At { line, what } => Some(FileFault {
@@ -44,7 +44,7 @@ pub(crate) fn params_fault(fault: ParamFault) -> Option<FileFault>
 
 /// The fault of an instance file. None for want of memory.
 pub(crate) fn instances_fault(fault: InstanceFault) -> Option<FileFault>
-    ensures { result ≡ FileFaults.instances_fault fault }
+    ensures { result ≡ FileFaults.instance_file_fault fault }
 {
     match fault {
         InstanceFault::At { line, what } => Some(FileFault {

@@ -2,7 +2,7 @@
 ghost use Rattle.std.specs.Prelude.{◌≡◌, ◌≤◌, IfOk, IfErr, IfSome, length};
 ghost use Rattle.plain_text.specs.Faults.{IsFound};
 ghost use Rattle.scenario_files.specs.Faults.{fault_of};
-ghost use Rattle.scenario_files.specs.Ranges.{AreWithin, IsWithin};
+ghost use Rattle.scenario_files.specs.Ranges.{AreWithin, IsScenarioWithin};
 ghost use Rattle.instance_pairs.specs.Limits.{max_instances};
 ghost use Rattle.tuner.specs.Readings.{file_bytes, scenario_reading, space_reading, instances_reading, Reads};
 ghost use Rattle.tuner.specs.Refusals.{IsCause, IsFile};
@@ -46,7 +46,7 @@ fn read_filled(alloc: Global, text: &[u8], words: Draft) -> Result<Scenario, Sce
     requires { AreWithin words }
     ensures value { IfOk result (λ s. whole_scenario words text.now ≡ Ok s) }
     ensures fault { IfErr result (λ e. IsFound (fault_of e) (whole_scenario words text.now)) }
-    ensures limits { IfOk result IsWithin }
+    ensures limits { IfOk result IsScenarioWithin }
 {
     let file = read_scenario(alloc, text)?;
     fill(alloc, file, words)
@@ -64,7 +64,7 @@ pub(crate) fn read_scenario_file<F: Files>(
     ensures counts { F.faults files.old ≤ F.faults files.new }
     ensures read { IfOk result (λ s. IfSome (F.contents files.old) (λ contents. scenario_reading contents name.now words ≡ Reads s)) }
     ensures refused { IfErr result (λ e. IsCause e (F.contents files.old) (λ contents. scenario_reading contents name.now words) (IsFile FileKind.Scenario name.now) (F.faults files.old) (F.faults files.new)) }
-    ensures limits { IfOk result IsWithin }
+    ensures limits { IfOk result IsScenarioWithin }
 {
     let bytes = read_bytes(alloc, files, FileKind::Scenario, name)?;
     match read_filled(alloc, bytes.as_slice(), words) {

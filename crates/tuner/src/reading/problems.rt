@@ -1,7 +1,7 @@
 //! The problem that words and files state.
 ghost use Rattle.std.specs.Prelude.{◌≡◌, ◌≤◌, length, IfOk, IfErr, IfSome};
 ghost use Rattle.objective.specs.Limits.{max_runs};
-ghost use Rattle.scenario_files.specs.Ranges.{AreWordsWithin, IsWithin};
+ghost use Rattle.scenario_files.specs.Ranges.{AreWordsWithin, IsScenarioWithin};
 ghost use Rattle.instance_pairs.specs.Limits.{max_instances};
 ghost use Rattle.tuner.specs.ScenarioProblem;
 ghost use Rattle.tuner.specs.Readings.{problem_by, problem_in, Reads};
@@ -31,7 +31,7 @@ fn factor_of(overall: Overall) -> Factor
 
 /// The rules of the search of a scenario, with so many runs of a configuration at most.
 fn rules_from(scenario: &Scenario, space: Space, runs: u32) -> Rules
-    requires limits { IsWithin scenario.now }
+    requires limits { IsScenarioWithin scenario.now }
     requires one { 1 ≤ runs }
     requires most { runs ≤ max_runs }
     ensures { result ≡ ScenarioProblem.rules_from scenario.now space runs }
@@ -55,7 +55,7 @@ fn rules_from(scenario: &Scenario, space: Space, runs: u32) -> Rules
 
 /// The pairs of a scenario over these instances.
 fn pairs_from(alloc: Global, scenario: &Scenario, instances: Vec<Instance>) -> Result<Pairs, Memory>
-    requires limits { IsWithin scenario.now }
+    requires limits { IsScenarioWithin scenario.now }
     requires some { 1 ≤ length instances.items }
     requires few { length instances.items ≤ max_instances }
     ensures { IfOk result (λ p. p ≡ ScenarioProblem.pairs_from scenario.now instances.items) }
@@ -77,7 +77,7 @@ fn problem_from(
     space: Space,
     instances: Vec<Instance>,
 ) -> Result<Problem, Memory>
-    requires limits { IsWithin scenario.now }
+    requires limits { IsScenarioWithin scenario.now }
     requires some { 1 ≤ length instances.items }
     requires few { length instances.items ≤ max_instances }
     ensures { IfOk result (λ p. p ≡ ScenarioProblem.problem_from scenario.now space instances.items) }
@@ -105,7 +105,7 @@ fn read_named<F: Files>(
     files: &mut F,
     scenario: &Scenario,
 ) -> Result<Problem, Refusal>
-    requires { IsWithin scenario.now }
+    requires { IsScenarioWithin scenario.now }
     ensures same { F.contents files.new ≡ F.contents files.old }
     ensures counts { F.faults files.old ≤ F.faults files.new }
     ensures read { IfOk result (λ p. IfSome (F.contents files.old) (λ contents. problem_in contents scenario.now ≡ Reads p)) }
