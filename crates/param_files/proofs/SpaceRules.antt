@@ -202,7 +202,7 @@ condition_passes params child parent values c place good h room =
         let most : nat_lt place Limits.max_conditions ≡ true = grind (arith, nat_tests, room) in
         let first = good.0 in
         let some : nat_lt 0 (length vs) ≡ true = grind (arith, nat_tests, size, first) in
-        none_broken (Faults.condition_line_rules params place (record { child = i; parent = j; values = vs }))
+        none_broken (Faults.condition_rules params place (record { child = i; parent = j; values = vs }))
         (most, (some, (values_apart params j values vs read good.1, (and_from (nat_lt i (length params)) (nat_lt j (length params)) child_below parent_below, (list_all-all_some (value_number params j) (λ v. nat_lt v (value_count params j)) values vs (λ value n. value_below params j value n) read, tt)))))
 
     with_values : (i j : ℕ) (o : Option (List ℕ)) → nat_lt i (length params) ≡ true → nat_lt j (length params) ≡ true → all_some (value_number params j) values ≡ o
@@ -248,7 +248,7 @@ clause_passes params picks f place good h room = by (all_some (λ k. param_numbe
         let most : (nat_lt place Limits.max_clauses && nat_le (length numbers) Limits.max_picks) ≡ true = grind (arith, nat_tests, room, size, short) in
         let some : nat_lt 0 (length numbers) ≡ true = grind (arith, nat_tests, size, first) in
         let same : map (λ k. k.param) numbers ≡ ns = map-all_some (λ k. param_number params k.name) (pick_numbered params) (λ k. k.param) picks ns numbers (λ k n e. (pick_known params k n e).0) names read in
-        none_broken (Faults.clause_line_rules params place (record { picks = numbers })) (
+        none_broken (Faults.clause_rules params place (record { picks = numbers })) (
           most,
           (
             some,
