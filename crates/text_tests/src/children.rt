@@ -1,5 +1,5 @@
 //! The seat, the files and the output in memory, and the faults that they are told to have.
-ghost use Rattle.std.specs.Prelude.{◌≡◌, IsTrue, codes};
+ghost use Rattle.std.specs.Prelude.{◌≡◌, IsTrue, false, codes};
 ghost use Rattle.outside.specs.Runs.{AreWordsOf};
 
 use crate::checks::check;
@@ -111,6 +111,116 @@ fn run_child(rt: &impl Abort, alloc: Global, run: &Run) -> Result<(), Memory> {
 fn seat_follows_its_script(rt: HostRuntime) -> Result<(), Fail> {
     let run = example_run(rt.alloc())?;
     Ok(run_child(&rt, rt.alloc(), &run)?)
+}
+
+/// Whether a child is started.
+fn is_started(seat: &mut TableSeat<Steady>, words: &[Text], run: &Run) -> bool
+    requires idle { IsTrue seat.old.idle }
+    requires words { AreWordsOf (codes ".") words.now run.now }
+    ensures { IsTrue result → seat.new.idle ≡ false }
+{
+    seat.start(".", words, run).is_ok()
+}
+
+/// Whether the child is pending at this look.
+fn is_pending(seat: &mut TableSeat<Steady>) -> bool
+    requires { seat.old.idle ≡ false }
+    ensures { IsTrue result → seat.new.idle ≡ false }
+{
+    matches!(seat.poll(), Ok(Poll::Pending))
+}
+
+/// Whether the child has ended at this look, and is read as solved after three seconds.
+fn is_solved(seat: &mut TableSeat<Steady>, cutoff: Micros) -> bool
+    requires { seat.old.idle ≡ false }
+{
+    match seat.poll() {
+        Ok(Poll::Ended) => { answer_of(seat.output(), cutoff) == Answer::Solved(Micros(3_000_000)) }
+        _ => false,
+    }
+}
+
+/// Whether a child is pending at two looks; it is killed then.
+fn is_killed(seat: &mut TableSeat<Steady>, words: &[Text], run: &Run) -> bool
+    requires idle { IsTrue seat.old.idle }
+    requires words { AreWordsOf (codes ".") words.now run.now }
+    ensures { IsTrue result → IsTrue seat.new.idle }
+{
+    if !is_started(seat, words, run) || !is_pending(seat) || !is_pending(seat) {
+        return false;
+    }
+    seat.kill();
+    true
+}
+
+/// Whether the kill of the first child is no fault, and the second child ends.
+fn goes_on(seat: &mut TableSeat<Steady>, words: &[Text], run: &Run) -> bool
+    requires idle { IsTrue seat.old.idle }
+    requires words { AreWordsOf (codes ".") words.now run.now }
+{
+    let right = seat.starts().len() == 1 && seat.faults() == 0;
+    right && is_started(seat, words, run) && is_solved(seat, run.cutoff)
+}
+
+/// Whether the first child is killed, and the second one ends.
+fn outlives_a_kill(seat: &mut TableSeat<Steady>, words: &[Text], run: &Run) -> bool
+    requires idle { IsTrue seat.old.idle }
+    requires words { AreWordsOf (codes ".") words.now run.now }
+{
+    let right = is_killed(seat, words, run) && goes_on(seat, words, run);
+    right && seat.starts().len() == 2 && seat.faults() == 0
+}
+
+/// The first child is pending for so many looks, or is stuck.
+fn script_of(alloc: Global, pending: u32, stuck: u32) -> Result<Script, Memory> {
+    Ok(Script {
+        pending: numbers(alloc, &[pending])?,
+        bad_starts: numbers(alloc, &[])?,
+        bad_polls: numbers(alloc, &[])?,
+        stuck: numbers(alloc, &[stuck])?,
+    })
+}
+
+/// Whether a seat whose first child is so outlives a kill, with these words of the run.
+fn seat_outlives(
+    alloc: Global,
+    pending: u32,
+    stuck: u32,
+    words: &[Text],
+    run: &Run,
+) -> Result<bool, Memory>
+    requires { AreWordsOf (codes ".") words.now run.now }
+{
+    let mut seat = TableSeat::new(alloc, script_of(alloc, pending, stuck)?)?;
+    Ok(outlives_a_kill(&mut seat, words, run))
+}
+
+/// Whether a seat whose first child is so outlives a kill, with the words of this program's run.
+fn program_outlives(
+    alloc: Global,
+    pending: u32,
+    stuck: u32,
+    program: &Program,
+) -> Result<bool, Memory>
+    requires { program.now.dir ≡ codes "." }
+{
+    let run = example_run(alloc)?;
+    let words = words_of(alloc, program, &run)?;
+    seat_outlives(alloc, pending, stuck, words.as_slice(), &run)
+}
+
+/// Whether a seat whose first child is pending for so many looks, or stuck, outlives a kill.
+fn child_outlives(alloc: Global, pending: u32, stuck: u32) -> Result<bool, Memory> {
+    let program = read_program(alloc, "sh run", ".", 7)?;
+    program_outlives(alloc, pending, stuck, &program)
+}
+
+#[test]
+fn children_are_killed(rt: HostRuntime) {
+    for (name, pending, stuck) in &[("pending", 5, 0), ("stuck", 0, 1)] {
+        let right = child_outlives(rt.alloc(), *pending, *stuck);
+        check(&rt, matches!(right, Ok(true)), name);
+    }
 }
 
 /// Whether the second read fails, and one of a file that there isn't.

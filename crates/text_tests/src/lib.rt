@@ -7,4 +7,6 @@ mod checks;
 #[cfg(test)]
 mod children;
 #[cfg(test)]
+mod parts;
+#[cfg(test)]
 mod texts;
