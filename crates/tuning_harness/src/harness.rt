@@ -71,6 +71,8 @@ pub struct Tuning {
     pub failed: u64,
     /// How many children the second seat started.
     pub others: usize,
+    /// How many reads failed.
+    pub unread: u64,
 }
 
 /// Puts these files into a folder; each stands in the place of an earlier one of its name.
@@ -136,6 +138,7 @@ fn outcome(
     printed: &[u8],
     first: &TableSeat<Rows>,
     second: &TableSeat<Rows>,
+    unread: u64,
 ) -> Result<Tuning, Memory> {
     let printed = Vec::from_slice(alloc, printed)?;
     Ok(Tuning {
@@ -145,6 +148,7 @@ fn outcome(
         started: first.starts().len(),
         failed: first.faults(),
         others: second.starts().len(),
+        unread,
     })
 }
 
@@ -175,7 +179,7 @@ fn ran_over<R: Wait>(
     let mut seats = [seat(alloc, faults)?, seat(alloc, faults)?];
     let status = tuned(rt, alloc, words, folder, out, &mut seats);
     let (first, second) = (seats[0].spawner(), seats[1].spawner());
-    outcome(alloc, status, out.bytes(), first, second)
+    outcome(alloc, status, out.bytes(), first, second, folder.faults())
 }
 
 /// What a tuning by these words over this folder and two seats comes to.
