@@ -4,7 +4,7 @@ use objective::Memory;
 use std::alloc::Global;
 use std::sync::Wait;
 use tuner::Status;
-use tuning_harness::{Faults, NONE, WORDS, ran};
+use tuning_harness::{Faults, NONE, Tuning, WORDS, ran};
 
 /// Whether a tuning with these faults ends so with this code after so many failed starts and
 /// looks, and prints this.
@@ -46,6 +46,57 @@ fn failed_children_are_named(rt: HostRuntime) {
     for (start, look, printed) in &[(1, 0, "childfault 1 x=a\n"), (0, 2, "childfault 2 x=a\n")] {
         let right = is_named(&rt, rt.alloc(), *start, *look, printed);
         check(&rt, matches!(right, Ok(true)), printed);
+    }
+}
+
+/// What a tuning of one comparison comes to in which this start or this look fails, and no
+/// child is pending.
+fn ran_comparing<R: Wait>(rt: &R, alloc: Global, start: u32, look: u32) -> Result<Tuning, Memory> {
+    let faults = Faults {
+        pending: [0, 0],
+        start,
+        look,
+        ..NONE
+    };
+    ran(rt, alloc, "-scenariofile|s|-maxComparisons|1", &[], &faults)
+}
+
+/// Whether a tuning ended by one fault of a child, after so many starts, with this last line.
+fn is_last_named(ran: &Tuning, started: usize, line: &str) -> bool {
+    let right = ran.status == Status::ChildFault { seat: 0 } && ran.failed == 1;
+    let last = ran.printed.as_slice().ends_with(line.as_bytes());
+    right && ran.started == started && last
+}
+
+/// Whether a tuning of one comparison in which this start or this look fails has so many
+/// starts, and this last line.
+fn is_named_last<R: Wait>(
+    rt: &R,
+    alloc: Global,
+    start: u32,
+    look: u32,
+    started: usize,
+    line: &str,
+) -> Result<bool, Memory> {
+    let ran = ran_comparing(rt, alloc, start, look)?;
+    Ok(is_last_named(&ran, started, line))
+}
+
+#[test]
+fn failed_children_of_a_comparison_are_named(rt: HostRuntime) {
+    // The comparison's children are a on both pairs, which are the third and the fourth, and
+    // then b. A failed start isn't among the starts; a child that was started is.
+    for (start, look, started, line) in &[
+        (3, 0, 2, "childfault 1 x=a\n"),
+        (4, 0, 3, "childfault 2 x=a\n"),
+        (5, 0, 4, "childfault 1 x=b\n"),
+        (6, 0, 5, "childfault 2 x=b\n"),
+        (0, 3, 3, "childfault 1 x=a\n"),
+        (0, 4, 4, "childfault 2 x=a\n"),
+        (0, 5, 5, "childfault 1 x=b\n"),
+    ] {
+        let right = is_named_last(&rt, rt.alloc(), *start, *look, *started, line);
+        check(&rt, matches!(right, Ok(true)), line);
     }
 }
 
