@@ -260,36 +260,61 @@ wp {0, 0.01, 0.02, 0.03, 0.04, 0.05, 0.06} [0.03]
 
 const SAPS_INSTANCES: &str = "cnf/a.cnf\ncnf/b.cnf\n";
 
-/// A tuning by these words of the usual scenario.
-fn ran_usual<R: Wait>(rt: &R, alloc: Global, words: &str) -> Result<Tuning, Memory> {
+/// The same, with children that take a second each.
+const SAPS_SECONDS: &str = "cnf/a.cnf 1111\ncnf/b.cnf 1111\n";
+
+/// A tuning by these words of the usual scenario over these instances. There is no file of test
+/// instances.
+fn ran_usual<R: Wait>(
+    rt: &R,
+    alloc: Global,
+    words: &str,
+    instances: &str,
+) -> Result<Tuning, Memory> {
     let files = [
         ("saps", SAPS.as_bytes()),
         ("p", SAPS_PARAMS.as_bytes()),
-        ("i", SAPS_INSTANCES.as_bytes()),
+        ("i", instances.as_bytes()),
     ];
     ran(rt, alloc, words, &files, &NONE)
 }
 
-/// Whether one comparison of the usual scenario is printed, and its children are started. The
-/// opening evaluation and the two of the comparison have 100 runs each.
-fn usual_is_read<R: Wait>(rt: &R, alloc: Global) -> Result<bool, Memory> {
-    let ran = ran_usual(rt, alloc, SAPS_WORDS)?;
-    let printed =
-        "0 100 399.000000 alpha=1.189 ps=0.1 rho=0.5 wp=0.03\nend 1 100 399.000000 alpha=1.189 ps=0.1 rho=0.5 wp=0.03\n";
-    let first =
-        "ruby saps_wrapper.rb cnf/a.cnf 0 5.000000 2147483647 1 -alpha 1.189 -ps 0.1 -rho 0.5 -wp 0.03\n";
-    Ok(has_printed(&ran, printed) && has_started(&ran, 300, first))
+/// Whether one comparison of the usual scenario over these instances is printed, its children
+/// are started, and no read failed. The opening evaluation and the two of the comparison have
+/// 100 runs each.
+fn usual_is_read<R: Wait>(
+    rt: &R,
+    alloc: Global,
+    instances: &str,
+    printed: &str,
+    first: &str,
+) -> Result<bool, Memory> {
+    let ran = ran_usual(rt, alloc, SAPS_WORDS, instances)?;
+    Ok(has_printed(&ran, printed) && has_started(&ran, 300, first) && ran.unread == 0)
 }
 
 #[test]
 fn a_usual_scenario_is_read_as_it_stands(rt: HostRuntime) {
-    let right = usual_is_read(&rt, rt.alloc());
-    check(&rt, matches!(right, Ok(true)), "a usual scenario");
+    for (instances, printed, first) in &[
+        (
+            SAPS_INSTANCES,
+            "0 100 399.000000 alpha=1.189 ps=0.1 rho=0.5 wp=0.03\nend 1 100 399.000000 alpha=1.189 ps=0.1 rho=0.5 wp=0.03\n",
+            "ruby saps_wrapper.rb cnf/a.cnf 0 5.000000 2147483647 1 -alpha 1.189 -ps 0.1 -rho 0.5 -wp 0.03\n",
+        ),
+        (
+            SAPS_SECONDS,
+            "0 100 100.000000 alpha=1.189 ps=0.1 rho=0.5 wp=0.03\nend 1 100 100.000000 alpha=1.189 ps=0.1 rho=0.5 wp=0.03\n",
+            "ruby saps_wrapper.rb cnf/a.cnf 1111 5.000000 2147483647 1 -alpha 1.189 -ps 0.1 -rho 0.5 -wp 0.03\n",
+        ),
+    ] {
+        let right = usual_is_read(&rt, rt.alloc(), instances, printed, first);
+        check(&rt, matches!(right, Ok(true)), instances);
+    }
 }
 
 /// Whether the usual scenario by itself asks for what isn't built.
 fn usual_is_unbuilt<R: Wait>(rt: &R, alloc: Global) -> Result<bool, Memory> {
-    let ran = ran_usual(rt, alloc, "-scenariofile|saps")?;
+    let ran = ran_usual(rt, alloc, "-scenariofile|saps", SAPS_INSTANCES)?;
     Ok(ran.status == Status::Unbuilt && ran.printed.as_slice() == b"unbuilt\n".as_slice())
 }
 
