@@ -7,8 +7,9 @@ use outside::{Fail, Fault, LastRuns, Poll, Run, Spawner};
 use plain_text::Text;
 use std::alloc::Global;
 use std::fs::File;
-use std::io::{Error, ErrorKind, Read, Seek, SeekFrom};
-use std::process::{Child, Command, Processes, Stdio};
+use std::io::{Error, ErrorKind, Write};
+use std::os::unix::fs::FileExt;
+use std::process::{Child, Command, OpenProcess, Processes, Stdio};
 use std::rt::{Clock, Files};
 use std::time::Duration;
 use std::{fs, io, thread};
@@ -16,18 +17,46 @@ use std::{fs, io, thread};
 /// How many bytes of a child's output are kept: its last ones.
 const ROOM: usize = 65_536;
 
+/// How many names of its own are tried for a new file.
+const MOST_NAMES: u32 = 1_000;
+
+/// What the files of a seat are called, and the number of this process.
+#[derive(Drop)]
+struct FileNames {
+    process: u32,
+    output: String,
+    errors: String,
+}
+
 /// The name of a file that the children of a seat write to.
 fn file_name(alloc: Global, number: u32, ending: &str) -> Result<String, Memory> {
     Ok(format!(in alloc; "paramils-seat-{number}.{ending}")?)
+}
+
+/// What the files of the seat with this number are called.
+fn names_of(alloc: Global, process: u32, number: u32) -> Result<FileNames, Memory> {
+    let output = file_name(alloc, number, "out")?;
+    let errors = file_name(alloc, number, "err")?;
+    Ok(FileNames {
+        process,
+        output,
+        errors,
+    })
+}
+
+/// A child, and the file that it writes its output to.
+#[derive(Drop)]
+struct Running<P: OpenProcess> {
+    child: Child<P>,
+    output: File,
 }
 
 /// A seat whose children are processes of the system. What they do isn't told.
 #[derive(Drop)]
 pub struct ProcessSeat<'a, R: Files<File = File> + Processes + Clock + AllocGlobal> {
     rt: &'a R,
-    output_name: String,
-    errors_name: String,
-    child: Option<Child<R::Started>>,
+    names: FileNames,
+    child: Option<Running<R::Started>>,
     is_held: bool,
     output: Vec<u8>,
     runs: LastRuns,
@@ -35,17 +64,17 @@ pub struct ProcessSeat<'a, R: Files<File = File> + Processes + Clock + AllocGlob
 }
 
 impl<'a, R: Files<File = File> + Processes + Clock + AllocGlobal> ProcessSeat<'a, R> {
-    /// The seat with this number, from 0. Its children write to `paramils-seat-K.out` and
-    /// `paramils-seat-K.err` in the folder that this process is in, K being the number.
-    pub fn new(rt: &'a R, number: u32) -> Result<ProcessSeat<'a, R>, Memory>
+    /// The seat with this number, from 0, of the process with that number. Its children write
+    /// to `paramils-seat-K.out` and `paramils-seat-K.err` in the folder that this process is
+    /// in, K being the seat's number.
+    pub fn new(rt: &'a R, process: u32, number: u32) -> Result<ProcessSeat<'a, R>, Memory>
         ensures idle { IfOk result (λ s. s.child ≡ None) }
         ensures faults { IfOk result (λ s. s.faults ≡ 0) }
     {
         let alloc = rt.alloc();
         Ok(ProcessSeat {
             rt,
-            output_name: file_name(alloc, number, "out")?,
-            errors_name: file_name(alloc, number, "err")?,
+            names: names_of(alloc, process, number)?,
             child: None,
             is_held: false,
             output: Vec::new(alloc),
@@ -83,64 +112,131 @@ fn command_of(alloc: Global, dir: &str, words: &[Text]) -> io::Result<Command> {
     Ok(command)
 }
 
-/// A new, empty file. One that has this name already is removed, so that whatever still
-/// writes to it doesn't write to the new one.
-fn new_file<R: Files<File = File>>(rt: &R, name: &str) -> io::Result<File> {
-    let _ = fs::remove_file(rt, name);
-    File::create_new(rt, name)
+/// Gives a file another name. Where that fails the file is removed.
+fn rename<R: Files>(rt: &R, own: &str, name: &str) -> io::Result<()> {
+    let renaming = fs::rename(rt, own, name);
+    if renaming.is_err() {
+        let _ = fs::remove_file(rt, own);
+    }
+    renaming
 }
 
-/// Gives a command new files for its output and its errors.
-fn give_files<R: Files<File = File>>(
+/// A new, empty file, which is made under its own name and then has the other one.
+fn renamed_file<R: Files<File = File>>(rt: &R, own: &str, name: &str) -> io::Result<File> {
+    let file = File::create_new(rt, own)?;
+    rename(rt, own, name)?;
+    Ok(file)
+}
+
+/// Whether a file couldn't be made since there is one of its own name.
+fn is_taken(file: &io::Result<File>) -> bool {
+    matches!(file, Err(error) if error.kind() == ErrorKind::AlreadyExists)
+}
+
+/// A new, empty file with this name. It is made under a name of its own, in which the number
+/// of this process stands, and takes this one over in one step. So whoever else does the same
+/// gets a file too, and who has an older one open goes on with that.
+fn new_file<R: Files<File = File> + AllocGlobal>(
     rt: &R,
-    command: &mut Command,
-    output_name: &str,
-    errors_name: &str,
-) -> io::Result<()> {
-    command.stdout(new_file(rt, output_name)?);
-    command.stderr(new_file(rt, errors_name)?);
+    process: u32,
+    name: &str,
+) -> io::Result<File> {
+    for place in 0..MOST_NAMES {
+        let own = format!(in rt.alloc(); "{name}.{process}.{place}")?;
+        let file = renamed_file(rt, own.as_str(), name);
+        if !is_taken(&file) {
+            return file;
+        }
+    }
+    Err(Error::from(ErrorKind::AlreadyExists))
+}
+
+/// Gives a command these files for its output and its errors; both handles stay open here.
+fn give_files(command: &mut Command, output: &File, errors: &File) -> io::Result<()> {
+    command.stdout(output.try_clone()?);
+    command.stderr(errors.try_clone()?);
     Ok(())
 }
 
-/// Starts a child without a shell, with new files for its output and its errors.
-fn launch<R: Files<File = File> + Processes + AllocGlobal>(
+/// Starts a child without a shell, whose output and errors go to these files.
+fn spawn<R: Processes + AllocGlobal>(
     rt: &R,
     dir: &str,
     words: &[Text],
-    output_name: &str,
-    errors_name: &str,
+    output: &File,
+    errors: &File,
 ) -> io::Result<Child<R::Started>> {
     let mut command = command_of(rt.alloc(), dir, words)?;
-    give_files(rt, &mut command, output_name, errors_name)?;
+    give_files(&mut command, output, errors)?;
     command.spawn(rt)
 }
 
+/// Starts a child with a new file for its output.
+fn launch<R: Files<File = File> + Processes + AllocGlobal>(
+    rt: &R,
+    names: &FileNames,
+    dir: &str,
+    words: &[Text],
+    errors: &File,
+) -> io::Result<Running<R::Started>> {
+    let output = new_file(rt, names.process, names.output.as_str())?;
+    let child = spawn(rt, dir, words, &output, errors)?;
+    Ok(Running { child, output })
+}
+
+/// Writes which program couldn't be started, in which folder, and what the system says of it.
+/// What goes wrong with that is left aside.
+fn write_why(mut errors: &File, dir: &str, words: &[Text], error: &Error) {
+    let program = words.first().map_or("", |word| word.as_str());
+    let _ = writeln!(errors, "{program} couldn't be started in {dir}: {error}");
+}
+
+/// Starts a child with new files for its output and its errors. Where it can't be started,
+/// the file for its errors says why, if that one could be made.
+fn launch_or_write_why<R: Files<File = File> + Processes + AllocGlobal>(
+    rt: &R,
+    names: &FileNames,
+    dir: &str,
+    words: &[Text],
+) -> io::Result<Running<R::Started>> {
+    let errors = new_file(rt, names.process, names.errors.as_str())?;
+    let running = launch(rt, names, dir, words, &errors);
+    if let Err(error) = &running {
+        write_why(&errors, dir, words, error);
+    }
+    running
+}
+
 /// Fills the room with the last bytes of a file, and cuts what is left over. Takes no memory.
-fn read_last<R: Files<File = File>>(rt: &R, name: &str, room: &mut Vec<u8>) -> io::Result<()> {
-    let mut file = File::open(rt, name)?;
+fn read_last(file: &File, room: &mut Vec<u8>) -> io::Result<()> {
     let length = file.metadata()?.len();
     let skipped = length.saturating_sub(room.len() as u64);
-    file.seek(SeekFrom::Start(skipped))?;
     room.truncate((length - skipped) as usize);
-    file.read_exact(room.as_mut_slice())
+    file.read_exact_at(room.as_mut_slice(), skipped)
+}
+
+impl<P: OpenProcess> Running<P> {
+    /// Looks whether the child has ended, and then fills the room with the last bytes of its
+    /// output.
+    fn look(&mut self, room: &mut Vec<u8>) -> io::Result<Poll> {
+        if self.child.try_wait()?.is_none() {
+            return Ok(Poll::Pending);
+        }
+        read_last(&self.output, room)?;
+        Ok(Poll::Ended)
+    }
 }
 
 impl<'a, R: Files<File = File> + Processes + Clock + AllocGlobal> ProcessSeat<'a, R> {
     /// Makes the room for a child's output and starts the child.
-    fn start_child(&mut self, dir: &str, words: &[Text]) -> io::Result<Child<R::Started>>
+    fn start_child(&mut self, dir: &str, words: &[Text]) -> io::Result<Running<R::Started>>
         ensures child { self.new.child ≡ self.old.child }
         ensures is_held { self.new.is_held ≡ self.old.is_held }
         ensures runs { self.new.runs ≡ self.old.runs }
         ensures faults { self.new.faults ≡ self.old.faults }
     {
         self.output.resize(ROOM, 0u8)?;
-        launch(
-            self.rt,
-            dir,
-            words,
-            self.output_name.as_str(),
-            self.errors_name.as_str(),
-        )
+        launch_or_write_why(self.rt, &self.names, dir, words)
     }
 
     /// Looks whether the child has ended; then the last bytes of its output stand in the room.
@@ -150,14 +246,10 @@ impl<'a, R: Files<File = File> + Processes + Clock + AllocGlobal> ProcessSeat<'a
         ensures runs { self.new.runs ≡ self.old.runs }
         ensures faults { self.new.faults ≡ self.old.faults }
     {
-        let Some(child) = &mut self.child else {
+        let Some(running) = &mut self.child else {
             return Err(Error::from(ErrorKind::NotFound));
         };
-        if child.try_wait()?.is_none() {
-            return Ok(Poll::Pending);
-        }
-        read_last(self.rt, self.output_name.as_str(), &mut self.output)?;
-        Ok(Poll::Ended)
+        running.look(&mut self.output)
     }
 
     /// Kills the child, if there is one, and waits for its end; what goes wrong with either
@@ -168,9 +260,9 @@ impl<'a, R: Files<File = File> + Processes + Clock + AllocGlobal> ProcessSeat<'a
         ensures runs { self.new.runs ≡ self.old.runs }
         ensures faults { self.new.faults ≡ self.old.faults }
     {
-        if let Some(mut child) = self.child.take() {
-            let _ = child.kill();
-            let _ = child.wait();
+        if let Some(mut running) = self.child.take() {
+            let _ = running.child.kill();
+            let _ = running.child.wait();
         }
     }
 }
@@ -192,7 +284,7 @@ impl<'a, R: Files<File = File> + Processes + Clock + AllocGlobal> Spawner for Pr
 
     /// Starts a child without a shell, with no input and with new files for its output and
     /// its errors. Memory where the system or the allocator has none left; Failed at every
-    /// other error.
+    /// other error. The file for the errors says why, where that one could be made.
     fn start(&mut self, dir: &str, words: &[Text], run: &Run) -> Result<(), Fault> {
         self.is_held = false;
         let Ok(copy) = run.copy() else {
@@ -200,8 +292,8 @@ impl<'a, R: Files<File = File> + Processes + Clock + AllocGlobal> Spawner for Pr
         };
         self.runs.begin(copy, false);
         match self.start_child(dir, words).map_err(fault_of) {
-            Ok(child) => {
-                self.child = Some(child);
+            Ok(running) => {
+                self.child = Some(running);
                 Ok(())
             }
             Err(Fault::Memory) => Err(Fault::Memory),

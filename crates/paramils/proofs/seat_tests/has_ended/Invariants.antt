@@ -1,5 +1,5 @@
 use Rattle.std.proofs.Common.{◌≡◌, false}
-use Rattle.paramils.proofs.tests.has_ended.Given as goal
+use Rattle.paramils.proofs.seat_tests.has_ended.Given as goal
 
 -- the child runs still
 abbrev pub invariant-loop : goal.invariant-loop
