@@ -1,11 +1,12 @@
 -- How far BasicILS is with a comparison, what it asks for, and what a reply does (Hutter et al., JAIR 36).
-use Rattle.std.specs.Prelude.{ℕ, ◌≡◌, ◌≤◌, Bool, true, false, not, ◌&&◌, All, List, [], ◌∷◌, ◌++◌, Option, None, Some, nat_le, nat_lt, bytes_eq}
+use Rattle.std.specs.Prelude.{ℕ, ◌≡◌, ◌≤◌, Bool, true, false, not, ◌&&◌, List, [], ◌∷◌, ◌++◌, Option, None, Some, IsSome, nat_le, nat_lt, bytes_eq}
 use Rattle.param_space.specs.Space.{defaults}
 use Rattle.uncapped.specs.Procedure.{Settings, Sums, Incumbent, PlainState, Procedure, ◌>>=◌, give}
 use Rattle.uncapped.specs.Setup.{Setup}
 use Rattle.uncapped.specs.Evaluation.{after_ask, after_entry, after_win, counts_after, evaluate, better_basic}
 use Rattle.uncapped.specs.Uncapped.{opening_basic}
 use Rattle.ils_face.specs.Rules.{Rules}
+use Rattle.ils_face.specs.Trajectories.{newest, IsTrajectory}
 use Rattle.ils_face.specs.declared.asks.Reply.{Reply}
 use Rattle.ils_face.specs.declared.asks.Reply.TheVariants.{Exact, Exceeds}
 use Rattle.ils_frame.specs.Comparers.{Phase, Ready, Asking, Decided, Parts}
@@ -181,17 +182,18 @@ IsPlaceFit allowed compared (Second first second) = (1 ≤ compared) × allowed 
 IsPlaceFit allowed compared (First first bound) = (1 ≤ compared) × allowed first
 IsPlaceFit allowed compared (Compared won) = 1 ≤ compared
 
--- the configurations of all entries are allowed
-abbrev pub AreEntriesAllowed : (Settings → Type 0) → List Incumbent → Type 0
-AreEntriesAllowed allowed es = All (λ e. allowed e.config) es
+-- once the default was evaluated there is an entry
+abbrev pub IsEntered : Place → List Incumbent → Type 0
+IsEntered Opening entries = Unit {0}
+IsEntered place entries = IsSome (newest entries)
 
 -- it was reached by fitting replies
 pub record IsFit (max_runs : ℕ) (allowed : Settings → Type 0) (c : State) : Type 0 where
   pub runs : c.max_runs ≡ max_runs
   pub some : 1 ≤ max_runs
-  pub incumbent : allowed c.last.config
   pub place : IsPlaceFit allowed c.last.compared c.place
-  pub entries : AreEntriesAllowed allowed c.entries
+  pub trajectory : IsTrajectory max_runs allowed c.entries c.last
+  pub entered : IsEntered c.place c.entries
 
 -- nothing was evaluated yet
 pub record IsFresh (start : Settings) (last : Incumbent) (s : PlainState) : Type 0 where

@@ -1,3 +1,4 @@
 pub mod Setups
 pub mod Traces
 pub mod QuietTables
+pub mod Trajectories

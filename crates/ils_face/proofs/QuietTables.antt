@@ -1,5 +1,5 @@
 -- Over a table in which each abort counts as unsolved the procedure is followed to its end.
-use Rattle.std.specs.Prelude.{ℕ, zero, suc, ◌<◌, ◌≡◌, Bool, true, false, List, Option, Some, None, IsSome, IfSome, nat_le, map, take, length, slice_get, refl, if◌then◌else◌}
+use Rattle.std.specs.Prelude.{ℕ, ◌<◌, ◌≡◌, Bool, true, false, List, Option, Some, None, IsSome, IfSome, nat_le, map, take, length, slice_get, refl, if◌then◌else◌}
 use Rattle.std.proofs.Common.{sym, ap, ◌∙◌, subst, inl, inr, arith, take_all}
 use Rattle.std.proofs.lemmas.Bool.{cases_lt}
 use Rattle.std.proofs.lemmas.Option.{slice_get_cases, slice_get_past}
@@ -8,17 +8,13 @@ use Rattle.objective.specs.Costs.{Table, cost_of, cost_within}
 use Rattle.objective.specs.declared.Outcome.{Outcome}
 use Rattle.objective.specs.declared.Outcome.TheVariants.{Solved, Unsolved, Crashed, Abort}
 use Rattle.uncapped.specs.Procedure.{Settings, Sums, Question, End, Finished, Aborted}
-use Rattle.uncapped.specs.Totals.{plus, total_cost, quiet_outcome, quiet}
+use Rattle.uncapped.specs.Totals.{total_cost, quiet_outcome, quiet}
 use Rattle.uncapped.specs.Uncapped.{Run}
+use Rattle.uncapped.proofs.KnownCosts.{all_known}
 use Rattle.ils_face.specs.declared.asks.Reply.{Reply}
 use Rattle.ils_face.specs.Replies.{ask_for, ask_at, cost_asked, replies_to, reply_to, reply_count}
 use Rattle.ils_face.specs.Views.{View}
 use Rattle.ils_face.specs.Follows.{Follows, StopsShort, answer_count, GoesThrough}
-
-some_plus : (a b : Option ℕ) → IsSome a → IsSome b → IsSome (plus a b)
-some_plus (Some x) (Some y) h k = refl
-some_plus (Some x) None h k = k
-some_plus None b h k = absurd (cc)
 
 either_some : (limits : Bounds) (b : Bool) (o u : Outcome) → IsSome (cost_within limits o) → IsSome (cost_within limits u) → IsSome (cost_within limits (if b then o else u))
 either_some limits true o u h k = h
@@ -32,8 +28,7 @@ quiet_cost limits (Abort t) = refl
 
 -- each total cost is known
 pub all_quiet : (limits : Bounds) (T : Table) (θ : Settings) (n : ℕ) → IsSome (total_cost limits (quiet T) θ n)
-all_quiet limits T θ zero = refl
-all_quiet limits T θ (suc n) = some_plus (total_cost limits (quiet T) θ n) (cost_of limits (quiet_outcome (T θ (suc n)))) (all_quiet limits T θ n) (quiet_cost limits (T θ (suc n)))
+all_quiet limits T = all_known limits (quiet T) (λ θ n. quiet_cost limits (T θ n))
 
 -- a known cost isn't none
 not_none : (o : Option ℕ) → IsSome o → o ≡ None → ⊥

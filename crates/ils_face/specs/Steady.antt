@@ -1,5 +1,5 @@
 -- What a search promises whatever fitting replies come.
-use Rattle.std.specs.Prelude.{ℕ, ◌≤◌, ◌<◌, ◌≡◌, ◌++◌, ◌⊎◌, All, List, [], ◌∷◌}
+use Rattle.std.specs.Prelude.{ℕ, ◌≤◌, ◌<◌, ◌≡◌, ◌++◌, ◌⊎◌, List, [], ◌∷◌, IsSome}
 use Rattle.param_space.specs.Configurations.{IsConfig}
 use Rattle.uncapped.specs.Procedure.{Settings, Incumbent}
 use Rattle.ils_face.specs.declared.asks.Ask.{Ask}
@@ -9,6 +9,7 @@ use Rattle.ils_face.specs.declared.asks.Reply.TheVariants.{Exact}
 use Rattle.ils_face.specs.Replies.{Fits}
 use Rattle.ils_face.specs.Rules.{Rules}
 use Rattle.ils_face.specs.Views.{View, AreFitting}
+use Rattle.ils_face.specs.Trajectories.{newest, IsTrajectory}
 
 -- an allowed canonical configuration on a number of places
 pub record IsEvaluation (rules : Rules) (θ : Settings) (n : ℕ) : Type 0 where
@@ -51,8 +52,10 @@ pub record Steps (before after : View) : Type 0 where
 -- what a search promises whatever fitting replies come
 pub record IsSteady (rules : Rules) (shown : List Reply → View) : Type 0 where
   pub asks : (replies : List Reply) → AreFitting shown replies → IsAsk rules (shown replies).ask
-  pub incumbent : (replies : List Reply) → AreFitting shown replies → IsConfig rules.space (shown replies).last.config
-  pub entries : (replies : List Reply) → AreFitting shown replies → All (λ e. IsConfig rules.space e.config) (shown replies).entries
+  pub trajectory : (replies : List Reply) → AreFitting shown replies
+      → IsTrajectory rules.max_runs (IsConfig rules.space) (shown replies).entries (shown replies).last
   pub earned : (replies : List Reply) → AreFitting shown replies → IsEarned shown replies (shown replies).last
   pub spent : (replies : List Reply) → AreFitting shown replies → (shown replies).ask ≡ End → (shown replies).last.compared ≡ rules.budget
+  pub opened : (replies : List Reply) → AreFitting shown replies → (shown replies).ask ≡ End
+      → IsSome (newest (shown replies).entries)  -- at the end there is an entry
   pub steps : (replies : List Reply) (r : Reply) → AreFitting shown replies → Fits (shown replies).ask r → Steps (shown replies) (shown (replies ++ r ∷ []))

@@ -61,23 +61,33 @@ pub trait Search: Sized + Drop {
 
     /// The number of comparisons begun.
     fn compared(&self) -> u32
-        ensures { result ≡ (shown (rules_of self.now) (replies_of self.now)).last.compared };
+        ensures value { result ≡ (shown (rules_of self.now) (replies_of self.now)).last.compared }
+        ensures ruled { AreRules (rules_of self.now) }
+        ensures fitting { AreFitting (shown (rules_of self.now)) (replies_of self.now) };
 
     /// The incumbents so far, oldest first.
     fn entries(&self) -> &[Entry]
-        ensures { result.now ≡ (shown (rules_of self.now) (replies_of self.now)).entries };
+        ensures value { result.now ≡ (shown (rules_of self.now) (replies_of self.now)).entries }
+        ensures ruled { AreRules (rules_of self.now) }
+        ensures fitting { AreFitting (shown (rules_of self.now)) (replies_of self.now) };
 
     /// The present incumbent.
     fn incumbent(&self) -> &Config
-        ensures { result.now ≡ (shown (rules_of self.now) (replies_of self.now)).last.config };
+        ensures value { result.now ≡ (shown (rules_of self.now) (replies_of self.now)).last.config }
+        ensures ruled { AreRules (rules_of self.now) }
+        ensures fitting { AreFitting (shown (rules_of self.now)) (replies_of self.now) };
 
     /// The number of its runs.
     fn incumbent_runs(&self) -> u32
-        ensures { result ≡ (shown (rules_of self.now) (replies_of self.now)).last.runs };
+        ensures value { result ≡ (shown (rules_of self.now) (replies_of self.now)).last.runs }
+        ensures ruled { AreRules (rules_of self.now) }
+        ensures fitting { AreFitting (shown (rules_of self.now)) (replies_of self.now) };
 
     /// The total cost of its runs.
     fn incumbent_sum(&self) -> Sum
-        ensures { result.0 ≡ (shown (rules_of self.now) (replies_of self.now)).last.sum };
+        ensures value { result.0 ≡ (shown (rules_of self.now) (replies_of self.now)).last.sum }
+        ensures ruled { AreRules (rules_of self.now) }
+        ensures fitting { AreFitting (shown (rules_of self.now)) (replies_of self.now) };
 
     /// What holds whatever fitting replies come.
     ghost steady: { (rules : Rules) → AreRules rules → IsSteady rules (shown rules) };

@@ -1,5 +1,5 @@
 -- What every comparer promises a search, whatever its state.
-use Rattle.std.specs.Prelude.{ℕ, ◌≡◌, ◌+◌, ◌*◌, ◌<◌, ◌≤◌, ◌⊎◌, Bool, true, false, All, List, [], ◌∷◌, ◌++◌, map, length, Option, Some, None}
+use Rattle.std.specs.Prelude.{ℕ, ◌≡◌, ◌+◌, ◌*◌, ◌<◌, ◌≤◌, ◌⊎◌, Bool, true, false, List, [], ◌∷◌, ◌++◌, map, length, Option, Some, None, IsSome}
 use Rattle.uncapped.specs.Procedure.{Settings, Sums, Question, Incumbent, Addition, PlainState, Aborted, Goes, Ends, Procedure, ◌>>=◌, give}
 use Rattle.uncapped.specs.Setup.{Setup}
 use Rattle.uncapped.specs.Evaluation.{after_ask}
@@ -7,6 +7,7 @@ use Rattle.uncapped.specs.Uncapped.{at_first, last_of}
 use Rattle.ils_face.specs.declared.asks.Reply.{Reply}
 use Rattle.ils_face.specs.declared.asks.Reply.TheVariants.{Exact}
 use Rattle.ils_face.specs.Replies.{Fits, ask_of, reply_up_to, cost_asked}
+use Rattle.ils_face.specs.Trajectories.{newest, IsTrajectory}
 use Rattle.ils_frame.specs.declared.pending.Stage.{Stage}
 use Rattle.ils_frame.specs.declared.pending.Stage.TheVariants as stage
 
@@ -95,12 +96,13 @@ pub record IsSteadyComparer {S : Type 0} (parts : Parts S) (fit : S → Type 0) 
   pub few : parts.left first ≤ 8 * max_runs + 16
   pub nothing_yet : parts.last first ≡ record { compared = 0; runs = 0; sum = 0; config = start }
   pub in_range : (c : S) (q : Question) → fit c → parts.phase c ≡ Asking q → InRange max_runs allowed q
-  pub incumbents : (c : S) → fit c → allowed (parts.last c).config
-  pub all_entries : (c : S) → fit c → All (λ e. allowed e.config) (parts.entries c)
+  pub trajectory : (c : S) → fit c → IsTrajectory max_runs allowed (parts.entries c) (parts.last c)
+  pub entered : (c : S) → fit c → question_in (parts.phase c) ≡ None → IsSome (newest (parts.entries c))
   pub ready_first : (c : S) → fit c → parts.phase c ≡ Ready → (parts.last c).compared ≡ 0
   pub decided_later : (c : S) (b : Bool) → fit c → parts.phase c ≡ Decided b → 1 ≤ (parts.last c).compared
   pub answered : (c : S) (q : Question) (r : Reply) → fit c → parts.phase c ≡ Asking q → Fits (ask_of q.config q.places q.bound) r → Answered parts fit c q r
-  pub begins : (c : S) (θ φ : Settings) (m : ℕ) → fit c → question_in (parts.phase c) ≡ None → 1 ≤ m → allowed θ → allowed φ → Begun parts fit max_runs c (parts.begun c θ φ m) m
+  pub begins : (c : S) (θ φ : Settings) (m : ℕ) → fit c → question_in (parts.phase c) ≡ None → (parts.last c).compared < m → allowed θ → allowed φ
+      → Begun parts fit max_runs c (parts.begun c θ φ m) m
 
 -- ---- with the replies of total costs
 

@@ -1,2 +1,3 @@
 mod Ties
 mod Domination
+pub mod KnownCosts

@@ -1,5 +1,5 @@
 -- Total costs of configurations over the first places, and aborts that count as unsolved.
-use Rattle.std.specs.Prelude.{ℕ, zero, suc, ◌+◌, List, Option, Some, None}
+use Rattle.std.specs.Prelude.{ℕ, zero, suc, ◌+◌, List, Option, Some, None, IsSome}
 use Rattle.objective.specs.Bounds.{Bounds}
 use Rattle.objective.specs.Costs.{Table, cost_of}
 use Rattle.objective.specs.declared.Outcome.{Outcome}
@@ -26,3 +26,7 @@ quiet_outcome (Abort t) = Unsolved
 -- the table in which each abort counts as unsolved
 abbrev pub quiet : Table → Table
 quiet T config place = quiet_outcome (T config place)
+
+-- no outcome of the table aborts within the cutoff
+abbrev pub NeverAborts : Bounds → Table → Type 0
+NeverAborts limits T = (config : List ℕ) (place : ℕ) → IsSome (cost_of limits (T config place))

@@ -1,16 +1,19 @@
 -- BasicILS keeps what a comparer promises whatever fitting replies come.
-use Rattle.std.proofs.Common.{◌≡◌, ℕ, ◌≤◌, ◌<◌, ◌⊎◌, inl, inr, Bool, true, false, [], ◌∷◌, Some, None, IfSome, refl, sym, subst, arith}
-use Rattle.std.proofs.lemmas.List.Elements.{All-append, All-push}
+use Rattle.std.proofs.Common.{◌≡◌, ℕ, ◌≤◌, ◌<◌, ◌⊎◌, inl, inr, Bool, true, false, List, [], ◌++◌, Option, Some, None, IsSome, IfSome, refl, sym, subst, arith}
+use Rattle.std.proofs.lemmas.List.{append-nil}
 use Rattle.std.proofs.Math.Nat.{le_refl}
 use Rattle.param_space.specs.Space.{defaults}
 use Rattle.param_space.proofs.Soundness.{default_is_config}
 use Rattle.param_space.specs.Configurations.{IsConfig}
 use Rattle.uncapped.specs.Procedure.{Settings, Question, Incumbent}
 use Rattle.ils_face.specs.Rules.{Rules, AreRules}
+use Rattle.ils_face.specs.Replies.{Fits, ask_of}
+use Rattle.ils_face.specs.Trajectories.{newest, IsTrajectory}
+use Rattle.ils_face.proofs.Trajectories.{newest-push, trajectory-none, trajectory-push, trajectory-begin}
 use Rattle.ils_face.specs.declared.asks.Reply.{Reply}
 use Rattle.ils_face.specs.declared.asks.Reply.TheVariants.{Exact, Exceeds}
 use Rattle.ils_frame.specs.Comparers.{Phase, Ready, Asking, Decided, question_in, SameIncumbent, NewIncumbent, Answered, Begun, InRange, IsSteadyComparer}
-use Rattle.basic_ils.specs.State.{Place, Opening, Opened, Second, First, Compared, State, phase_at, place_after, evaluated_config, is_renewed, entry, entry_where, added_at, last_after, left_at, basic_parts, first_state, IsPlaceFit, AreEntriesAllowed, IsFit}
+use Rattle.basic_ils.specs.State.{Place, Opening, Opened, Second, First, Compared, State, phase_at, place_after, evaluated_config, is_renewed, entry, entry_where, added_at, last_after, left_at, basic_parts, first_state, IsPlaceFit, IsEntered, IsFit}
 
 -- ---- questions
 
@@ -18,23 +21,9 @@ use Rattle.basic_ils.specs.State.{Place, Opening, Opened, Second, First, Compare
 pub at_question : (phase : Phase) (P : Question → Type 0) → IfSome (question_in phase) P → (q : Question) → phase ≡ Asking q → P q
 at_question phase P h q e = subst (λ p. IfSome (question_in p) P) e h
 
--- ---- entries
+-- ---- what is evaluated
 
 module _ (allowed : Settings → Type 0) where
-  no_entries : AreEntriesAllowed allowed []
-  no_entries = λ k d h. absurd (omega (arith, h))
-
-  one_entry : (e : Incumbent) → allowed e.config → AreEntriesAllowed allowed (e ∷ [])
-  one_entry e t = All-push (λ (e : Incumbent). allowed e.config) [] e no_entries t
-
-  entry_allowed : (b : Bool) (e : Incumbent) → allowed e.config → AreEntriesAllowed allowed (entry_where b e)
-  entry_allowed true e t = one_entry e t
-  entry_allowed false e t = no_entries
-
-  newest_allowed : (b : Bool) (last e : Incumbent) → allowed last.config → allowed e.config → allowed (last_after last (entry_where b e)).config
-  newest_allowed true last e s t = t
-  newest_allowed false last e s t = s
-
   evaluated_allowed : (compared : ℕ) (incumbent : Settings) (place : Place) → allowed incumbent → IsPlaceFit allowed compared place → allowed (evaluated_config incumbent place)
   evaluated_allowed compared incumbent Opening s f = s
   evaluated_allowed compared incumbent Opened s f = s
@@ -53,13 +42,53 @@ module _ (n : ℕ) (allowed : Settings → Type 0) where
   after_compared last place (Exact x) = newest_compared (is_renewed last place x.0) last (entry n last (evaluated_config last.config place) x.0) refl
   after_compared last place Exceeds = refl
 
-  after_allowed : (last : Incumbent) (place : Place) (r : Reply) → allowed last.config → IsPlaceFit allowed last.compared place → allowed (last_after last (added_at n last place r)).config
-  after_allowed last place (Exact x) s f = newest_allowed allowed (is_renewed last place x.0) last (entry n last (evaluated_config last.config place) x.0) s (evaluated_allowed allowed last.compared last.config place s f)
-  after_allowed last place Exceeds s f = s
+  -- the entry of a new incumbent, where it is one
+  trajectory_where : (most : ℕ) (b : Bool) (es : List Incumbent) (last e : Incumbent)
+      → IsTrajectory most allowed es last → e.compared ≡ last.compared → allowed e.config → e.runs ≤ most
+      → IsTrajectory most allowed (es ++ entry_where b e) (last_after last (entry_where b e))
+  trajectory_where most true es last e t s c r = trajectory-push most allowed es last e t (omega (arith, s)) c r
+  trajectory_where most false es last e t s c r = subst (λ es. IsTrajectory most allowed es last) (sym (append-nil es)) t
 
-  added_allowed : (last : Incumbent) (place : Place) (r : Reply) → allowed last.config → IsPlaceFit allowed last.compared place → AreEntriesAllowed allowed (added_at n last place r)
-  added_allowed last place (Exact x) s f = entry_allowed allowed (is_renewed last place x.0) (entry n last (evaluated_config last.config place) x.0) (evaluated_allowed allowed last.compared last.config place s f)
-  added_allowed last place Exceeds s f = no_entries allowed
+  trajectory_after : (most : ℕ) (es : List Incumbent) (last : Incumbent) (place : Place) (r : Reply)
+      → n ≤ most → IsTrajectory most allowed es last → IsPlaceFit allowed last.compared place
+      → IsTrajectory most allowed (es ++ added_at n last place r) (last_after last (added_at n last place r))
+  trajectory_after most es last place (Exact x) few t f =
+      trajectory_where most (is_renewed last place x.0) es last (entry n last (evaluated_config last.config place) x.0) t refl
+      (evaluated_allowed allowed last.compared last.config place t.config f) few
+  trajectory_after most es last place Exceeds few t f = subst (λ es. IsTrajectory most allowed es last) (sym (append-nil es)) t
+
+  newest_where : (b : Bool) (es : List Incumbent) (e : Incumbent) → IsSome (newest es) → IsSome (newest (es ++ entry_where b e))
+  newest_where true es e h = subst (λ (o : Option Incumbent). IsSome o) (sym (newest-push es e)) refl
+  newest_where false es e h = subst (λ (es : List Incumbent). IsSome (newest es)) (sym (append-nil es)) h
+
+  newest_after : (es : List Incumbent) (last : Incumbent) (place : Place) (r : Reply) → IsSome (newest es)
+      → IsSome (newest (es ++ added_at n last place r))
+  newest_after es last place (Exact x) h =
+      newest_where (is_renewed last place x.0) es (entry n last (evaluated_config last.config place) x.0) h
+  newest_after es last place Exceeds h = newest_where false es last h
+
+  abbrev IsEnteredAfter : List Incumbent → Incumbent → Place → Reply → Question → Type 0
+  IsEnteredAfter es last place r q = Fits (ask_of q.config q.places q.bound) r → IsEntered (place_after place r) (es ++ added_at n last place r)
+
+  entered_after : (es : List Incumbent) (last : Incumbent) (place : Place) (r : Reply) → IsEntered place es
+      → IfSome (question_in (phase_at n last.config place)) (IsEnteredAfter es last place r)
+  entered_after es last Opening (Exact x) h = λ fits.
+      subst (λ (o : Option Incumbent). IsSome o) (sym (newest-push es (entry n last last.config x.0))) refl
+  entered_after es last Opening Exceeds h = λ fits. absurd fits
+  entered_after es last Opened r h = tt
+  entered_after es last (Second first second) (Exact x) h = λ fits. newest_after es last (Second first second) (Exact x) h
+  entered_after es last (Second first second) Exceeds h = λ fits. newest_after es last (Second first second) Exceeds h
+  entered_after es last (First first bound) (Exact x) h = λ fits. newest_after es last (First first bound) (Exact x) h
+  entered_after es last (First first bound) Exceeds h = λ fits. newest_after es last (First first bound) Exceeds h
+  entered_after es last (Compared won) r h = tt
+
+  entered_at : (incumbent : Settings) (place : Place) (es : List Incumbent) → IsEntered place es
+      → question_in (phase_at n incumbent place) ≡ None → IsSome (newest es)
+  entered_at incumbent Opening es h e = absurd (cc)
+  entered_at incumbent Opened es h e = h
+  entered_at incumbent (Second first second) es h e = h
+  entered_at incumbent (First first bound) es h e = h
+  entered_at incumbent (Compared won) es h e = h
 
   place_fit : (compared : ℕ) (place : Place) (r : Reply) → IsPlaceFit allowed compared place → IsPlaceFit allowed compared (place_after place r)
   place_fit compared Opening r f = f
@@ -131,27 +160,38 @@ module _ (n : ℕ) (allowed : Settings → Type 0) where
 -- ---- the law
 
 module _ (n : ℕ) (allowed : Settings → Type 0) where
-  fit_after : (c : State) (r : Reply) → IsFit n allowed c → IsFit n allowed (basic_parts.after c r)
-  fit_after c r f = record {
+  fit_after : (c : State) (q : Question) (r : Reply) → IsFit n allowed c → basic_parts.phase c ≡ Asking q
+      → Fits (ask_of q.config q.places q.bound) r → IsFit n allowed (basic_parts.after c r)
+  fit_after c q r f e fits = record {
     runs = f.runs;
     some = f.some;
-    incumbent = after_allowed c.max_runs allowed c.last c.place r f.incumbent f.place;
     place = subst (λ m. IsPlaceFit allowed m (place_after c.place r)) (sym (after_compared c.max_runs allowed c.last c.place r)) (place_fit c.max_runs allowed c.last.compared c.place r f.place);
-    entries = All-append (λ (e : Incumbent). allowed e.config) c.entries (added_at c.max_runs c.last c.place r) f.entries (added_allowed c.max_runs allowed c.last c.place r f.incumbent f.place);
+    trajectory = trajectory_after c.max_runs allowed n c.entries c.last c.place r (let k = f.runs in omega (arith, k)) f.trajectory f.place;
+    entered = at_question (basic_parts.phase c) (IsEnteredAfter c.max_runs allowed c.entries c.last c.place r)
+        (entered_after c.max_runs allowed c.entries c.last c.place r f.entered) q e fits;
   }
 
-  answered : (c : State) (q : Question) (r : Reply) → IsFit n allowed c → basic_parts.phase c ≡ Asking q → Answered basic_parts (IsFit n allowed) c q r
-  answered c q r f e = record {
-    stays_fit = fit_after c r f;
+  answered : (c : State) (q : Question) (r : Reply) → IsFit n allowed c → basic_parts.phase c ≡ Asking q
+      → Fits (ask_of q.config q.places q.bound) r → Answered basic_parts (IsFit n allowed) c q r
+  answered c q r f e fits = record {
+    stays_fit = fit_after c q r f e fits;
     nearer = at_question (basic_parts.phase c) (λ q. left_at (place_after c.place r) < left_at c.place) (nearer c.max_runs allowed c.last.config c.place r) q e;
     grown = refl;
     compared = after_compared c.max_runs allowed c.last c.place r;
     incumbent = at_question (basic_parts.phase c) (Earned c.max_runs allowed c.last c.place) (earned c.max_runs allowed c.last c.place) q e r;
   }
 
-  begins : (c : State) (θ φ : Settings) (m : ℕ) → IsFit n allowed c → 1 ≤ m → allowed θ → allowed φ → Begun basic_parts (IsFit n allowed) n c (basic_parts.begun c θ φ m) m
-  begins c θ φ m f some s t = record {
-    stays_fit = record { runs = f.runs; some = f.some; incumbent = f.incumbent; place = (some, s, t); entries = f.entries };
+  begins : (c : State) (θ φ : Settings) (m : ℕ) → IsFit n allowed c → question_in (basic_parts.phase c) ≡ None
+      → c.last.compared < m → allowed θ → allowed φ
+      → Begun basic_parts (IsFit n allowed) n c (basic_parts.begun c θ φ m) m
+  begins c θ φ m f none later s t = record {
+    stays_fit = record {
+      runs = f.runs;
+      some = f.some;
+      place = (omega (arith, later), s, t);
+      trajectory = trajectory-begin n allowed c.entries c.last m f.trajectory (omega (arith, later));
+      entered = entered_at c.max_runs allowed c.last.config c.place c.entries f.entered none;
+    };
     few = omega arith;
     asks_first = refl;
     same_entries = refl;
@@ -162,22 +202,28 @@ module _ (n : ℕ) (allowed : Settings → Type 0) where
   in_range : (c : State) (q : Question) → IsFit n allowed c → basic_parts.phase c ≡ Asking q → InRange n allowed q
   in_range c q f e =
       let some : 1 ≤ c.max_runs = subst (λ k. 1 ≤ k) (sym f.runs) f.some in
-      subst (λ k. InRange k allowed q) f.runs (at_question (basic_parts.phase c) (InRange c.max_runs allowed) (asked_in_range c.max_runs allowed c.last c.place some f.incumbent f.place) q e)
+      subst (λ k. InRange k allowed q) f.runs (at_question (basic_parts.phase c) (InRange c.max_runs allowed) (asked_in_range c.max_runs allowed c.last c.place some f.trajectory.config f.place) q e)
 
 -- whatever fitting replies come
 pub basic_steady : (n : ℕ) (allowed : Settings → Type 0) (start : Settings) → 1 ≤ n → allowed start
     → IsSteadyComparer basic_parts (IsFit n allowed) n allowed start (record { max_runs = n; last = record { compared = 0; runs = 0; sum = 0; config = start }; place = Opening; entries = [] })
 basic_steady n allowed start some s = record {
-  opened = record { runs = refl; some = some; incumbent = s; place = refl; entries = no_entries allowed };
+  opened = record {
+    runs = refl;
+    some = some;
+    place = refl;
+    trajectory = trajectory-none n allowed (record { compared = 0; runs = 0; sum = 0; config = start }) s (omega arith);
+    entered = tt;
+  };
   few = omega arith;
   nothing_yet = refl;
   in_range = in_range n allowed;
-  incumbents = λ c f. f.incumbent;
-  all_entries = λ c f. f.entries;
+  trajectory = λ c f. f.trajectory;
+  entered = λ c f none. entered_at c.max_runs allowed c.last.config c.place c.entries f.entered none;
   ready_first = λ c f e. ready_fit c.max_runs allowed c.last.compared c.last.config c.place f.place e;
   decided_later = λ c b f e. decided_fit c.max_runs allowed c.last.compared c.last.config c.place b f.place e;
-  answered = λ c q r f e h. answered n allowed c q r f e;
-  begins = λ c θ φ m f none some s t. begins n allowed c θ φ m f some s t;
+  answered = λ c q r f e fits. answered n allowed c q r f e fits;
+  begins = λ c θ φ m f none later s t. begins n allowed c θ φ m f none later s t;
 }
 
 -- under the rules of a search

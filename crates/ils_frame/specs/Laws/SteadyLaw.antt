@@ -13,11 +13,12 @@ use Rattle.ils_face.specs.Replies.{Fits, ask_of, ask_for}
 use Rattle.ils_face.specs.Rules.{Rules, AreRules}
 use Rattle.ils_face.proofs.Setups.{SetupOf, setup_of-numbers}
 use Rattle.ils_face.specs.Views.{View, AreFitting}
+use Rattle.ils_face.specs.Trajectories.{IsTrajectory}
 use Rattle.ils_face.specs.Steady.{IsEvaluation, IsAsk, AsksFor, WasReplied, IsEarned, Steps, IsSteady}
 use Rattle.ils_frame.specs.Comparers.{Phase, Ready, Asking, Decided, is_asking, question_in, Parts, SameIncumbent, NewIncumbent, InRange, IsSteadyComparer}
 use Rattle.ils_frame.specs.Machine.{Machine, first_machine, next_machine, after_all, view_of, machine_after, shown_after}
 use Rattle.ils_frame.specs.Laws.AllowedConfigs.{DrawsAllowed}
-use Rattle.ils_frame.specs.Laws.MachineInvariant.{IsFitting, Replied, replies, first_machine-settled, then_same, then_new}
+use Rattle.ils_frame.specs.Laws.MachineInvariant.{IsFitting, Replied, replies, not-asking, first_machine-settled, then_same, then_new}
 use Rattle.ils_face.specs.Setups.{setup_of}
 use Rattle.ils_frame.specs.Laws.AllowedDraws.{draws_allowed}
 use Rattle.param_space.specs.Space.{defaults}
@@ -141,8 +142,9 @@ module _ {S : Type 0} (parts : Parts S) (fit : S → Type 0) (rules : Rules) (se
   search_steady = record {
     asks = λ rs i. let k : Fitting (at_end rs) = reached (first_machine parts setup first) first_fitting rs i in
         is_ask (parts.phase (at_end rs).comparer) (λ q e. steady.in_range (at_end rs).comparer q k.stays_fit e);
-    incumbent = λ rs i. let k : Fitting (at_end rs) = reached (first_machine parts setup first) first_fitting rs i in steady.incumbents (at_end rs).comparer k.stays_fit;
-    entries = λ rs i. let k : Fitting (at_end rs) = reached (first_machine parts setup first) first_fitting rs i in steady.all_entries (at_end rs).comparer k.stays_fit;
+    trajectory = λ rs i. let k : Fitting (at_end rs) = reached (first_machine parts setup first) first_fitting rs i in
+        subst (λ n. IsTrajectory n (IsConfig rules.space) (parts.entries (at_end rs).comparer) (parts.last (at_end rs).comparer))
+        same.max_runs (steady.trajectory (at_end rs).comparer k.stays_fit);
     earned = λ rs i. elim (earned (first_machine parts setup first) first_fitting rs i) [
       | inl s ↦ none_earned rs (parts.last first) (parts.last (at_end rs).comparer) steady.nothing_yet
           (then_same parts fit setup (IsConfig rules.space) draws few_steps first steady (parts.last first) (parts.last (first_machine parts setup first).comparer) (parts.last (at_end rs).comparer)
@@ -151,6 +153,9 @@ module _ {S : Type 0} (parts : Parts S) (fit : S → Type 0) (rules : Rules) (se
     ];
     spent = λ rs i e. let k : Fitting (at_end rs) = reached (first_machine parts setup first) first_fitting rs i in
         k.spent (over_at (at_end rs).over (parts.phase (at_end rs).comparer) k.asks (ends_without (parts.phase (at_end rs).comparer) e)) ∙ same.budget;
+    opened = λ rs i e. let k : Fitting (at_end rs) = reached (first_machine parts setup first) first_fitting rs i in
+        steady.entered (at_end rs).comparer k.stays_fit
+        (not-asking (parts.phase (at_end rs).comparer) (ends_without (parts.phase (at_end rs).comparer) e));
     steps = λ rs r i fits. let k : Fitting (at_end rs) = reached (first_machine parts setup first) first_fitting rs i in
         rw (after_all-more parts setup (first_machine parts setup first) rs r) (steps (at_end rs) r k fits);
   }
