@@ -1,5 +1,5 @@
 -- How the calls of files, sinks and spawners change what they tell.
-use Rattle.std.specs.Prelude.{ℕ, Bool, true, false, ◌==◌, ◌&&◌, List, ◌++◌, ◌∷◌, [], length, nat_lt, Option, Some, None, Result, Ok, Err}
+use Rattle.std.specs.Prelude.{ℕ, ◌≡◌, Bool, true, false, ◌==◌, ◌&&◌, List, ◌++◌, ◌∷◌, [], length, nat_lt, Option, Some, None, Result, Ok, Err}
 use Rattle.outside.specs.declared.faults.Fault.{Fault}
 use Rattle.outside.specs.declared.faults.Fault.TheVariants.{Failed, Memory}
 use Rattle.outside.specs.declared.faults.Fail.{Fail}
@@ -23,11 +23,17 @@ abbrev pub is_empty_taking : Result ℕ Fault → List ℕ → Bool
 is_empty_taking (Ok n) piece = (n == 0) && nat_lt 0 (length piece)
 is_empty_taking (Err _) piece = false
 
--- the lists of words started, where they are told, after a start
-abbrev pub started_after : {A : Type 0} → Result A Fault → Option (List (List (List ℕ))) → List (List ℕ) → Option (List (List (List ℕ)))
-started_after (Ok _) None words = None
-started_after (Ok _) (Some lists) words = Some (lists ++ words ∷ [])
-started_after (Err _) lists words = lists
+-- what was started, where it is told, after a start of one more
+abbrev pub started_after : {A X : Type 0} → Result A Fault → Option (List X) → X → Option (List X)
+started_after (Ok _) None x = None
+started_after (Ok _) (Some xs) x = Some (xs ++ x ∷ [])
+started_after (Err _) xs x = xs
+
+-- the call fails exactly where the test is met, unless it finds no memory
+abbrev pub FailsWhere : {A : Type 0} → Bool → Result A Fault → Type 0
+FailsWhere test (Ok _) = test ≡ false
+FailsWhere test (Err Failed) = test ≡ true
+FailsWhere test (Err Memory) = Unit {0}
 
 -- the run of the last start or look that failed
 abbrev pub failed_after : Bool → Option Run → Option Run → Option Run

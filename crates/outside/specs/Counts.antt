@@ -1,5 +1,6 @@
--- Counts of faults, which rise by one at each failure and stand still at the greatest u64.
-use Rattle.std.specs.Prelude.{ℕ, suc, ◌≤◌, ◌-◌, ◌^◌, min, Bool, true, false}
+-- Counts, which rise by one at each call or at each failure and stand still at the greatest u64.
+use Rattle.std.specs.Prelude.{ℕ, suc, ◌≤◌, ◌-◌, ◌^◌, ◌==◌, min, Bool, true, false, List}
+use Rattle.std.specs.List.{list_any}
 
 -- one more, where the number has room for it
 abbrev pub next_count : ℕ → ℕ
@@ -13,3 +14,7 @@ Rose before after = next_count before ≤ after
 abbrev pub count_after : Bool → ℕ → ℕ
 count_after true n = next_count n
 count_after false n = n
+
+-- the number stands among these
+abbrev pub is_among : ℕ → List ℕ → Bool
+is_among number numbers = list_any (λ n. n == number) numbers

@@ -1,21 +1,31 @@
 -- What contracts see of a seat in memory, and when what it holds is told truly.
-use Rattle.std.specs.Prelude.{ℕ, ◌≡◌, Bool, true, false, List, Option, Some, IfSome}
+use Rattle.std.specs.Prelude.{◌≡◌, Bool, true, false, [], Option, Some, None, IfSome, Result, Ok, Err}
 use Rattle.objective.specs.Costs.{seen}
 use Rattle.objective.specs.declared.Outcome.{Outcome}
+use Rattle.outside.specs.Courses.{after_start}
 use Rattle.outside.specs.Results.{answer_of}
+use Rattle.outside.specs.ToldStates.{SpawnerTold}
+use Rattle.outside.specs.declared.course.Course.{Course}
+use Rattle.outside.specs.declared.faults.Fault.{Fault}
+use Rattle.outside.specs.declared.faults.Fault.TheVariants.{Failed, Memory}
 use Rattle.outside.specs.declared.runs.Key.{Key}
-use Rattle.outside.specs.declared.runs.Run.{Run}
 use Rattle.outside.specs.declared.table_seat.Child.{Child}
 use Rattle.outside.specs.declared.table_seat.Place.{Place}
 use Rattle.outside.specs.declared.table_seat.Place.TheVariants.{Idle, Runs, Ended}
 
 pub record Seat : Type 0 where
-  pub idle : Bool  -- no child runs
-  pub held : Bool  -- the output of an ended child is held
-  pub current : Option Run  -- the run that was started last
-  pub failed_run : Option Run  -- the run of the last start or look that failed
-  pub started : List (List (List ℕ))  -- the lists of words started, oldest first
-  pub faults : ℕ  -- how many starts and looks have failed
+  pub told : SpawnerTold
+  pub course : Course  -- how far it is with its script
+
+-- a seat that has started nothing
+abbrev pub told_first : SpawnerTold
+told_first = record { idle = true; held = false; current = None; failed_run = None; started = Some []; folders = Some []; faults = 0 }
+
+-- how far a seat is after a start; one that finds no memory leaves that
+abbrev pub course_after : {A : Type 0} → Result A Fault → Course → Course
+course_after (Ok _) c = after_start true c
+course_after (Err Failed) c = after_start false c
+course_after (Err Memory) c = c
 
 -- no child runs
 abbrev pub is_idle : Place → Bool

@@ -1,21 +1,26 @@
 -- What a sink has taken of a text.
-use Rattle.std.specs.Prelude.{ℕ, ◌≡◌, List, take, Option}
+use Rattle.std.specs.Prelude.{ℕ, ◌≡◌, List, take}
 use Rattle.outside.specs.Counts.{Rose}
 use Rattle.outside.specs.Changes.{after_taking}
+use Rattle.outside.specs.ToldStates.{SinkTold}
 use Rattle.outside.specs.declared.whole_pieces.Unwritten.{Unwritten}
 use Rattle.outside.specs.declared.whole_pieces.Unwritten.TheVariants.{Fault, Memory}
 
+-- the text was taken, and nothing else
+abbrev pub Took : SinkTold → SinkTold → List ℕ → Type 0
+Took before after text = after.taken ≡ after_taking before.taken text
+
 -- a first part of the text was taken, and nothing else
-pub record TookPartOf (before after : Option (List ℕ)) (text : List ℕ) : Type 0 where
+pub record TookPartOf (before after : SinkTold) (text : List ℕ) : Type 0 where
   pub length : ℕ
-  pub taken : after ≡ after_taking before (take length text)
+  pub taken : Took before after (take length text)
 
 -- a write failed or took nothing: one of the two counts rose
-pub data WroteBadly (faults faults' empties empties' : ℕ) : Type 0 where
-  failed : Rose faults faults' → WroteBadly faults faults' empties empties'
-  nothing_taken : Rose empties empties' → WroteBadly faults faults' empties empties'
+pub data WroteBadly (before after : SinkTold) : Type 0 where
+  failed : Rose before.faults after.faults → WroteBadly before after
+  nothing_taken : Rose before.empties after.empties → WroteBadly before after
 
--- why a piece wasn't written whole, by the counts of faults and of empty takings
-abbrev pub IsUnwrittenFor : Unwritten → ℕ → ℕ → ℕ → ℕ → Type 0
-IsUnwrittenFor Fault faults faults' empties empties' = WroteBadly faults faults' empties empties'
-IsUnwrittenFor Memory faults faults' empties empties' = Unit {0}
+-- why a piece wasn't written whole, by the counts
+abbrev pub IsUnwrittenFor : Unwritten → SinkTold → SinkTold → Type 0
+IsUnwrittenFor Fault before after = WroteBadly before after
+IsUnwrittenFor Memory before after = Unit {0}

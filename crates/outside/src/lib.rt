@@ -2,6 +2,7 @@
 //! what is built on them, and implementations in memory.
 #![tactic(auto)]
 
+mod course;
 mod faults;
 mod files;
 mod last_runs;
@@ -16,6 +17,7 @@ mod table;
 mod table_seat;
 mod whole_pieces;
 
+pub use course::Script;
 pub use faults::{Fail, Fault, Poll};
 pub use files::Files;
 pub use last_runs::LastRuns;
@@ -26,5 +28,5 @@ pub use runs::{Key, Program, Run, Setting, copy_texts, read_program, words_of};
 pub use sink::Sink;
 pub use spawner::Spawner;
 pub use table::Table;
-pub use table_seat::{Script, TableSeat};
+pub use table_seat::TableSeat;
 pub use whole_pieces::{Unwritten, write_whole};

@@ -32,7 +32,7 @@ impl Model for MemoryFiles {
 
     ghost Value = { Folder };
 
-    ghost view = { λ m. record { files = m.files.items; bad_reads = m.bad_reads.items; faults = m.faults } };
+    ghost view = { λ m. record { files = m.files.items; bad_reads = m.bad_reads.items; reads = m.reads; faults = m.faults } };
 }
 
 /// The bytes of the first file with this name.
@@ -46,7 +46,7 @@ fn bytes_named<'a>(files: &'a [File], name: &str) -> Option<&'a [u8]>
 impl MemoryFiles {
     /// No files. Takes no memory.
     pub fn new(alloc: Global) -> MemoryFiles
-        ensures { result ≡ record { files = []; bad_reads = []; faults = 0 } }
+        ensures { result ≡ record { files = []; bad_reads = []; reads = 0; faults = 0 } }
     {
         MemoryFiles {
             alloc,
@@ -87,14 +87,23 @@ impl MemoryFiles {
 }
 
 impl Files for MemoryFiles {
-    ghost use Rattle.std.specs.Prelude.{Some};
-    ghost use Rattle.outside.specs.Folders.{bytes_of};
+    ghost use Rattle.std.specs.Prelude.{◌≡◌, ◌≤◌, Some, IfSome, IfOk};
+    ghost use Rattle.outside.specs.Changes.{has_failed, FailsWhere};
+    ghost use Rattle.outside.specs.Counts.{next_count, count_after};
+    ghost use Rattle.outside.specs.Folders.{bytes_of, is_unreadable};
 
-    ghost contents = { λ s. Some (bytes_of s.files) };
+    ghost told = { λ s. record { contents = Some (bytes_of s.files); faults = s.faults } };
 
-    ghost faults = { λ s. s.faults };
-
-    fn read(&mut self, name: &str) -> Result<Vec<u8>, Fault> {
+    /// Fails exactly where the number of this read was named, or there is no such file, unless
+    /// there is no memory left.
+    fn read(&mut self, name: &str) -> Result<Vec<u8>, Fault>
+        ensures failing { FailsWhere (is_unreadable self.old name.now) result }
+        ensures change { self.new ≡ record self.old { reads = next_count self.old.reads; faults = count_after (has_failed result) self.old.faults } }
+        ensures same { Some (bytes_of self.new.files) ≡ Some (bytes_of self.old.files) }
+        ensures given { IfOk result (λ bytes. bytes_of self.old.files name.now ≡ Some bytes.items) }
+        ensures counted { self.new.faults ≡ count_after (has_failed result) self.old.faults }
+        ensures counts { self.old.faults ≤ self.new.faults }
+    {
         self.reads = self.reads.saturating_add(1);
         if !has_number(self.bad_reads.as_slice(), self.reads) {
             if let Some(bytes) = bytes_named(self.files.as_slice(), name) {

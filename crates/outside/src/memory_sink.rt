@@ -24,13 +24,13 @@ impl Model for MemorySink {
 
     ghost Value = { SinkState };
 
-    ghost view = { λ s. record { bytes = s.bytes.items; bad_writes = s.bad_writes.items; empty_writes = s.empty_writes.items; faults = s.faults; empties = s.empties } };
+    ghost view = { λ s. record { bytes = s.bytes.items; bad_writes = s.bad_writes.items; empty_writes = s.empty_writes.items; writes = s.writes; faults = s.faults; empties = s.empties } };
 }
 
 impl MemorySink {
     /// A sink that has taken nothing. Takes no memory.
     pub fn new(alloc: Global) -> MemorySink
-        ensures { result ≡ record { bytes = []; bad_writes = []; empty_writes = []; faults = 0; empties = 0 } }
+        ensures { result ≡ record { bytes = []; bad_writes = []; empty_writes = []; writes = 0; faults = 0; empties = 0 } }
     {
         MemorySink {
             bytes: Vec::new(alloc),
@@ -76,15 +76,29 @@ impl MemorySink {
 }
 
 impl Sink for MemorySink {
-    ghost use Rattle.std.specs.Prelude.{Some};
+    ghost use Rattle.std.specs.Prelude.{◌≡◌, ◌≤◌, Some, length, take, IfOk, OnErr};
+    ghost use Rattle.outside.specs.Changes.{has_failed, FailsWhere, after_taking, is_empty_taking};
+    ghost use Rattle.outside.specs.Counts.{next_count, count_after};
+    ghost use Rattle.outside.specs.SinkState.{is_bad_write, taken_length};
 
-    ghost taken = { λ s. Some s.bytes };
+    ghost told = { λ s. record { taken = Some s.bytes; faults = s.faults; empties = s.empties } };
 
-    ghost faults = { λ s. s.faults };
-
-    ghost empties = { λ s. s.empties };
-
-    fn write(&mut self, piece: &[u8]) -> Result<usize, Fault> {
+    /// Fails exactly where the number of this write was named so, unless there is no memory
+    /// left; takes nothing where it was named so, else the whole piece.
+    fn write(&mut self, piece: &[u8]) -> Result<usize, Fault>
+        ensures failing { FailsWhere (is_bad_write self.old) result }
+        ensures length { IfOk result (λ n. n ≡ taken_length self.old piece.now) }
+        ensures numbered { self.new.writes ≡ next_count self.old.writes }
+        ensures bad_writes { self.new.bad_writes ≡ self.old.bad_writes }
+        ensures empty_writes { self.new.empty_writes ≡ self.old.empty_writes }
+        ensures within { IfOk result (λ n. n ≤ length piece.now) }
+        ensures took { IfOk result (λ n. Some self.new.bytes ≡ after_taking (Some self.old.bytes) (take n piece.now)) }
+        ensures refused { OnErr result (Some self.new.bytes ≡ Some self.old.bytes) }
+        ensures emptied { self.new.empties ≡ count_after (is_empty_taking result piece.now) self.old.empties }
+        ensures never_falls { self.old.empties ≤ self.new.empties }
+        ensures counted { self.new.faults ≡ count_after (has_failed result) self.old.faults }
+        ensures counts { self.old.faults ≤ self.new.faults }
+    {
         self.writes = self.writes.saturating_add(1);
         if has_number(self.bad_writes.as_slice(), self.writes) {
             self.faults = self.faults.saturating_add(1);

@@ -1,10 +1,10 @@
 //! Lists of numbers.
-ghost use Rattle.std.specs.Prelude.{◌≡◌, ◌==◌};
-ghost use Rattle.std.specs.List.{list_any};
+ghost use Rattle.std.specs.Prelude.{◌≡◌};
+ghost use Rattle.outside.specs.Counts.{is_among};
 
 /// Whether the number stands among these.
 pub(crate) fn has_number(numbers: &[u32], number: usize) -> bool
-    ensures { result ≡ list_any (λ n. n == number) numbers.now }
+    ensures { result ≡ is_among number numbers.now }
 {
     numbers.iter().any(|n| *n as usize == number)
 }

@@ -1,5 +1,5 @@
 //! Children.
-ghost use Rattle.std.specs.Prelude.{◌≡◌, ℕ, ◌≤◌, IsTrue, not, Bool, true, false, List, Option, Some, OnOk, IfSome, is_ok, ◌||◌};
+ghost use Rattle.std.specs.Prelude.{◌≡◌, ◌≤◌, IsTrue, not, false, Option, Some, OnOk, IfSome, is_ok, ◌||◌};
 ghost use Rattle.objective.specs.Costs.{seen};
 ghost use Rattle.objective.specs.declared.Outcome.{Outcome};
 ghost use Rattle.outside.specs.Counts.{count_after};
@@ -7,7 +7,7 @@ ghost use Rattle.outside.specs.Changes.{has_failed, has_ended, has_look_failed, 
 ghost use Rattle.outside.specs.Results.{answer_of};
 ghost use Rattle.outside.specs.Runs.{AreWordsOf};
 ghost use Rattle.outside.specs.declared.runs.Key.{Key};
-ghost use Rattle.outside.specs.declared.runs.Run.{Run};
+ghost use Rattle.outside.specs.ToldStates.{SpawnerTold};
 
 use crate::faults::{Fail, Fault, Poll};
 use crate::runs::Run;
@@ -15,23 +15,9 @@ use plain_text::Text;
 
 /// Something that starts one child at a time. Each seat has its own.
 pub trait Spawner: Drop {
-    /// Whether no child runs.
-    ghost idle: { Self → Bool };
-
-    /// Whether the output of an ended child is held.
-    ghost held: { Self → Bool };
-
-    /// The run that was started last.
-    ghost current: { Self → Option Run };
-
-    /// The run of the last start or look that failed, if there was one.
-    ghost failed_run: { Self → Option Run };
-
-    /// The lists of words started so far, oldest first, where they are told.
-    ghost started: { Self → Option (List (List (List ℕ))) };
-
-    /// How many starts and looks have failed.
-    ghost faults: { Self → ℕ };
+    /// What it tells: whether a child runs, which run was started and which failed, what was
+    /// started so far, and how many starts and looks have failed.
+    ghost told: { Self → SpawnerTold };
 
     /// What each key's run does with all the time that it wants, where it is told.
     ghost truth: { Option (Key → Outcome) };
@@ -39,49 +25,47 @@ pub trait Spawner: Drop {
     /// Starts a child in a folder. After Ok it runs this run; after a refusal no child
     /// runs. It makes the room that the output needs, so that `poll` takes no memory.
     fn start(&mut self, dir: &str, words: &[Text], run: &Run) -> Result<(), Fault>
-        requires idle { IsTrue (idle self.old) }
+        requires idle { IsTrue (told self.old).idle }
         requires words { AreWordsOf dir.now words.now run.now }
-        ensures running { OnOk result (current self.new ≡ Some run.now) }
-        ensures busy { idle self.new ≡ not (is_ok result) }
-        ensures held { held self.new ≡ false }
-        ensures started { started self.new ≡ started_after result (started self.old) words.now }
-        ensures failed_run { failed_run self.new ≡ failed_after (has_failed result) (Some run.now) (failed_run self.old) }
-        ensures counted { faults self.new ≡ count_after (has_failed result) (faults self.old) }
-        ensures counts { faults self.old ≤ faults self.new };
+        ensures running { OnOk result ((told self.new).current ≡ Some run.now) }
+        ensures busy { (told self.new).idle ≡ not (is_ok result) }
+        ensures held { (told self.new).held ≡ false }
+        ensures started { (told self.new).started ≡ started_after result (told self.old).started words.now }
+        ensures folders { (told self.new).folders ≡ started_after result (told self.old).folders dir.now }
+        ensures failed_run { (told self.new).failed_run ≡ failed_after (has_failed result) (Some run.now) (told self.old).failed_run }
+        ensures counted { (told self.new).faults ≡ count_after (has_failed result) (told self.old).faults }
+        ensures counts { (told self.old).faults ≤ (told self.new).faults };
 
     /// Looks whether the child has ended. After Ended and after a failed look no child
     /// runs. Pending comes only where the child hadn't ended at this look.
     fn poll(&mut self) -> Result<Poll, Fail>
-        requires { idle self.old ≡ false }
-        ensures same { current self.new ≡ current self.old }
-        ensures ended { held self.new ≡ has_ended result }
-        ensures idle { idle self.new ≡ (has_ended result || has_look_failed result) }
-        ensures started { started self.new ≡ started self.old }
-        ensures failed_run { failed_run self.new ≡ failed_after (has_look_failed result) (current self.old) (failed_run self.old) }
-        ensures counted { faults self.new ≡ count_after (has_look_failed result) (faults self.old) }
-        ensures counts { faults self.old ≤ faults self.new };
+        requires { (told self.old).idle ≡ false }
+        ensures same { (told self.new).current ≡ (told self.old).current }
+        ensures ended { (told self.new).held ≡ has_ended result }
+        ensures idle { (told self.new).idle ≡ (has_ended result || has_look_failed result) }
+        ensures started { (told self.new).started ≡ (told self.old).started }
+        ensures folders { (told self.new).folders ≡ (told self.old).folders }
+        ensures failed_run { (told self.new).failed_run ≡ failed_after (has_look_failed result) (told self.old).current (told self.old).failed_run }
+        ensures counted { (told self.new).faults ≡ count_after (has_look_failed result) (told self.old).faults }
+        ensures counts { (told self.old).faults ≤ (told self.new).faults };
 
     /// The output of the ended child. Where the truth is told, it is read as what the
     /// truth shows under the run's cutoff.
     fn output(&self) -> &[u8]
-        requires { IsTrue (held self.now) }
-        ensures { (outcome : Key → Outcome) → truth ≡ Some outcome → IfSome (current self.now) (λ run. answer_of result.now run.cutoff.0 ≡ seen (outcome run.key) run.cutoff.0) };
+        requires { IsTrue (told self.now).held }
+        ensures { (outcome : Key → Outcome) → truth ≡ Some outcome → IfSome (told self.now).current (λ run. answer_of result.now run.cutoff.0 ≡ seen (outcome run.key) run.cutoff.0) };
 
     /// Kills the child and waits for its end. It can't be refused.
     fn kill(&mut self)
-        requires { idle self.old ≡ false }
-        ensures idle { IsTrue (idle self.new) }
-        ensures held { held self.new ≡ false }
-        ensures started { started self.new ≡ started self.old }
-        ensures failed_run { failed_run self.new ≡ failed_run self.old }
-        ensures faults { faults self.new ≡ faults self.old };
+        requires { (told self.old).idle ≡ false }
+        ensures idle { IsTrue (told self.new).idle }
+        ensures held { (told self.new).held ≡ false }
+        ensures started { (told self.new).started ≡ (told self.old).started }
+        ensures folders { (told self.new).folders ≡ (told self.old).folders }
+        ensures failed_run { (told self.new).failed_run ≡ (told self.old).failed_run }
+        ensures faults { (told self.new).faults ≡ (told self.old).faults };
 
     /// Waits a moment. Changes nothing that is told.
     fn pause(&mut self)
-        ensures idle { idle self.new ≡ idle self.old }
-        ensures held { held self.new ≡ held self.old }
-        ensures same { current self.new ≡ current self.old }
-        ensures started { started self.new ≡ started self.old }
-        ensures failed_run { failed_run self.new ≡ failed_run self.old }
-        ensures faults { faults self.new ≡ faults self.old };
+        ensures { told self.new ≡ told self.old };
 }

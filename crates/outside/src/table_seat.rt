@@ -1,11 +1,12 @@
 //! A seat in memory whose runs do what a table says.
-ghost use Rattle.std.specs.Prelude.{◌≡◌, [], true, false, None, Some, IfOk};
+ghost use Rattle.std.specs.Prelude.{◌≡◌, Some, IfOk};
 ghost use Rattle.objective.specs.Costs;
 ghost use Rattle.outside.specs.Results.{answer_of, result_line, answer_line};
-ghost use Rattle.outside.specs.Seats.{Reads};
+ghost use Rattle.outside.specs.Courses.{first_course};
+ghost use Rattle.outside.specs.Seats.{Reads, told_first};
 
+use crate::course::{Course, Script};
 use crate::faults::{Fail, Fault, Poll};
-use crate::numbers::has_number;
 use crate::runs::{Key, Run, copy_texts};
 use crate::spawner::Spawner;
 use crate::table::Table;
@@ -13,23 +14,6 @@ use objective::{Answer, Memory, Micros, seen};
 use plain_text::{Items, Text, seconds_text};
 use std::alloc::Global;
 use std::marker::{Model, PhantomData};
-
-/// The look at a stuck child that fails.
-const LAST_LOOK: u32 = 1_000_000;
-
-/// Which starts and looks of a seat go wrong, by their numbers from 1, and how often its
-/// children are looked at before they have ended.
-#[derive(Drop)]
-pub struct Script {
-    /// How many looks at each start's child come before it has ended; none where the list is shorter.
-    pub pending: Items<u32>,
-    /// The starts that fail.
-    pub bad_starts: Items<u32>,
-    /// The looks that fail.
-    pub bad_polls: Items<u32>,
-    /// The starts whose child doesn't end; its look number 1,000,000 fails.
-    pub stuck: Items<u32>,
-}
 
 /// Where the child of a seat stands.
 #[derive(Clone, Copy)]
@@ -57,25 +41,22 @@ struct Child {
 pub struct TableSeat<T: Table> {
     of: PhantomData<T>,
     alloc: Global,
-    script: Script,
-    starts: usize,
-    polls: usize,
+    course: Course,
     place: Place,
-    looks: u32,
-    is_stuck: bool,
     child: Option<Child>,
     failed_run: Option<Run>,
     started: Vec<Items<Text>>,
+    folders: Vec<Text>,
     faults: u64,
 }
 
 impl<T: Table> Model for TableSeat<T> {
-    ghost use Rattle.std.specs.Prelude.{option_map};
+    ghost use Rattle.std.specs.Prelude.{Some, option_map};
     ghost use Rattle.outside.specs.Seats.{Seat, Tells, is_idle, is_held};
 
     ghost Value = { Seat };
 
-    ghost view = { λ s. record { idle = is_idle s.place; held = is_held s.place; current = option_map (λ c. c.run) s.child; failed_run = s.failed_run; started = s.started.items; faults = s.faults } };
+    ghost view = { λ s. record { told = record { idle = is_idle s.place; held = is_held s.place; current = option_map (λ c. c.run) s.child; failed_run = s.failed_run; started = Some s.started.items; folders = Some s.folders.items; faults = s.faults }; course = s.course } };
 
     ghost invariant = { λ s. Tells T.outcome s.place s.child };
 }
@@ -140,97 +121,121 @@ fn told_child<T: Table>(alloc: Global, run: &Run) -> Result<Child, Memory>
 impl<T: Table> TableSeat<T> {
     /// A seat that has started nothing.
     pub fn new(alloc: Global, script: Script) -> Result<TableSeat<T>, Memory>
-        ensures { IfOk result (λ s. s ≡ record { idle = true; held = false; current = None; failed_run = None; started = []; faults = 0 }) }
+        ensures told { IfOk result (λ s. s.told ≡ told_first) }
+        ensures course { IfOk result (λ s. s.course ≡ first_course script) }
     {
         Ok(TableSeat {
             of: PhantomData,
             alloc,
-            script,
-            starts: 0,
-            polls: 0,
+            course: Course::new(script),
             place: Place::Idle,
-            looks: 0,
-            is_stuck: false,
             child: None,
             failed_run: None,
             started: Vec::new(alloc),
+            folders: Vec::new(alloc),
             faults: 0,
         })
     }
 
     /// The lists of words started so far, oldest first.
     pub fn starts(&self) -> &[Items<Text>]
-        ensures { result.now ≡ self.now.started }
+        ensures { self.now.told.started ≡ Some result.now }
     {
         self.started.as_slice()
     }
 
+    /// The folders that these were started in.
+    pub fn folders(&self) -> &[Text]
+        ensures { self.now.told.folders ≡ Some result.now }
+    {
+        self.folders.as_slice()
+    }
+
     /// How many starts and looks have failed.
     pub fn faults(&self) -> u64
-        ensures { result ≡ self.now.faults }
+        ensures { result ≡ self.now.told.faults }
     {
         self.faults
     }
 }
 
 impl<T: Table> Spawner for TableSeat<T> {
-    ghost idle = { λ s. s.idle };
+    ghost use Rattle.std.specs.Prelude.{◌≡◌, ◌≤◌, IsTrue, not, false, Some, OnOk, is_ok, ◌||◌};
+    ghost use Rattle.outside.specs.Changes.{has_failed, has_ended, has_look_failed, started_after, failed_after, FailsWhere};
+    ghost use Rattle.outside.specs.Counts.{count_after};
+    ghost use Rattle.outside.specs.Runs.{AreWordsOf};
+    ghost use Rattle.outside.specs.Courses.{after_look, is_bad_start, is_bad_look, is_ended};
+    ghost use Rattle.outside.specs.Seats.{course_after};
 
-    ghost held = { λ s. s.held };
-
-    ghost current = { λ s. s.current };
-
-    ghost failed_run = { λ s. s.failed_run };
-
-    ghost started = { λ s. Some s.started };
-
-    ghost faults = { λ s. s.faults };
+    ghost told = { λ s. s.told };
 
     ghost truth = { Some T.outcome };
 
-    fn start(&mut self, _dir: &str, words: &[Text], run: &Run) -> Result<(), Fault> {
+    /// Fails exactly where the script says so, unless there is no memory left.
+    fn start(&mut self, dir: &str, words: &[Text], run: &Run) -> Result<(), Fault>
+        requires idle { IsTrue self.old.told.idle }
+        requires words { AreWordsOf dir.now words.now run.now }
+        ensures scripted { FailsWhere (is_bad_start self.old.course) result }
+        ensures course { self.new.course ≡ course_after result self.old.course }
+        ensures running { OnOk result (self.new.told.current ≡ Some run.now) }
+        ensures busy { self.new.told.idle ≡ not (is_ok result) }
+        ensures held { self.new.told.held ≡ false }
+        ensures started { self.new.told.started ≡ started_after result self.old.told.started words.now }
+        ensures folders { self.new.told.folders ≡ started_after result self.old.told.folders dir.now }
+        ensures failed_run { self.new.told.failed_run ≡ failed_after (has_failed result) (Some run.now) self.old.told.failed_run }
+        ensures counted { self.new.told.faults ≡ count_after (has_failed result) self.old.told.faults }
+        ensures counts { self.old.told.faults ≤ self.new.told.faults }
+    {
         self.place = Place::Idle;
         self.started.reserve(1)?;
+        self.folders.reserve(1)?;
         let words = Items::new(copy_texts(self.alloc, words)?);
+        let folder = Text::of(self.alloc, dir)?;
         let child = told_child::<T>(self.alloc, run)?;
-        let pending = self.script.pending.as_slice().get(self.starts).copied();
-        self.starts = self.starts.saturating_add(1);
-        if has_number(self.script.bad_starts.as_slice(), self.starts) {
+        if !self.course.start() {
             store(&mut self.failed_run, spare_of(child));
             self.faults = self.faults.saturating_add(1);
             return Err(Fault::Failed);
         }
-        self.is_stuck = has_number(self.script.stuck.as_slice(), self.starts);
-        self.looks = if self.is_stuck {
-            LAST_LOOK - 1
-        } else {
-            pending.unwrap_or(0)
-        };
         self.started.push_reserved(words);
+        self.folders.push_reserved(folder);
         store(&mut self.child, Some(child));
         self.place = Place::Runs;
         Ok(())
     }
 
-    fn poll(&mut self) -> Result<Poll, Fail> {
-        self.polls = self.polls.saturating_add(1);
-        let is_last = self.is_stuck && self.looks == 0;
-        if is_last || has_number(self.script.bad_polls.as_slice(), self.polls) {
-            let spare = match &mut self.child {
-                Some(child) => child.spare.take(),
-                None => None,
-            };
-            store(&mut self.failed_run, spare);
-            self.faults = self.faults.saturating_add(1);
-            self.place = Place::Idle;
-            return Err(Fail);
+    /// Finds exactly what the script says.
+    fn poll(&mut self) -> Result<Poll, Fail>
+        requires { self.old.told.idle ≡ false }
+        ensures failing { has_look_failed result ≡ is_bad_look self.old.course }
+        ensures ending { has_ended result ≡ is_ended self.old.course }
+        ensures course { self.new.course ≡ after_look self.old.course }
+        ensures same { self.new.told.current ≡ self.old.told.current }
+        ensures ended { self.new.told.held ≡ has_ended result }
+        ensures idle { self.new.told.idle ≡ (has_ended result || has_look_failed result) }
+        ensures started { self.new.told.started ≡ self.old.told.started }
+        ensures folders { self.new.told.folders ≡ self.old.told.folders }
+        ensures failed_run { self.new.told.failed_run ≡ failed_after (has_look_failed result) self.old.told.current self.old.told.failed_run }
+        ensures counted { self.new.told.faults ≡ count_after (has_look_failed result) self.old.told.faults }
+        ensures counts { self.old.told.faults ≤ self.new.told.faults }
+    {
+        match self.course.look() {
+            Ok(Poll::Pending) => Ok(Poll::Pending),
+            Ok(Poll::Ended) => {
+                self.place = Place::Ended;
+                Ok(Poll::Ended)
+            }
+            Err(_) => {
+                let spare = match &mut self.child {
+                    Some(child) => child.spare.take(),
+                    None => None,
+                };
+                store(&mut self.failed_run, spare);
+                self.faults = self.faults.saturating_add(1);
+                self.place = Place::Idle;
+                Err(Fail)
+            }
         }
-        if self.looks > 0 {
-            self.looks -= 1;
-            return Ok(Poll::Pending);
-        }
-        self.place = Place::Ended;
-        Ok(Poll::Ended)
     }
 
     fn output(&self) -> &[u8] {
@@ -240,10 +245,21 @@ impl<T: Table> Spawner for TableSeat<T> {
         }
     }
 
-    fn kill(&mut self) {
+    fn kill(&mut self)
+        requires { self.old.told.idle ≡ false }
+        ensures course { self.new.course ≡ self.old.course }
+        ensures idle { IsTrue self.new.told.idle }
+        ensures held { self.new.told.held ≡ false }
+        ensures started { self.new.told.started ≡ self.old.told.started }
+        ensures folders { self.new.told.folders ≡ self.old.told.folders }
+        ensures failed_run { self.new.told.failed_run ≡ self.old.told.failed_run }
+        ensures faults { self.new.told.faults ≡ self.old.told.faults }
+    {
         store(&mut self.child, None);
         self.place = Place::Idle;
     }
 
-    fn pause(&mut self) {}
+    fn pause(&mut self)
+        ensures { self.new ≡ self.old }
+    {}
 }

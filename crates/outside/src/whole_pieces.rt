@@ -1,7 +1,6 @@
 //! Pieces that are written whole.
-ghost use Rattle.std.specs.Prelude.{◌≡◌, ◌≤◌, OnOk, IfErr};
-ghost use Rattle.outside.specs.Changes.{after_taking};
-ghost use Rattle.outside.specs.WholePieces.{TookPartOf, IsUnwrittenFor};
+ghost use Rattle.std.specs.Prelude.{◌≤◌, OnOk, IfErr};
+ghost use Rattle.outside.specs.WholePieces.{Took, TookPartOf, IsUnwrittenFor};
 
 use crate::faults::Fault;
 use crate::sink::Sink;
@@ -17,11 +16,11 @@ pub enum Unwritten {
 
 /// Writes a whole piece. After a refusal a first part of it was taken, and nothing else.
 pub fn write_whole<O: Sink>(out: &mut O, piece: &[u8]) -> Result<(), Unwritten>
-    ensures whole { OnOk result (O.taken out.new ≡ after_taking (O.taken out.old) piece.now) }
-    ensures part { TookPartOf (O.taken out.old) (O.taken out.new) piece.now }
-    ensures counts { O.faults out.old ≤ O.faults out.new }
-    ensures empties { O.empties out.old ≤ O.empties out.new }
-    ensures cause { IfErr result (λ e. IsUnwrittenFor e (O.faults out.old) (O.faults out.new) (O.empties out.old) (O.empties out.new)) }
+    ensures whole { OnOk result (Took (O.told out.old) (O.told out.new) piece.now) }
+    ensures part { TookPartOf (O.told out.old) (O.told out.new) piece.now }
+    ensures counts { (O.told out.old).faults ≤ (O.told out.new).faults }
+    ensures empties { (O.told out.old).empties ≤ (O.told out.new).empties }
+    ensures cause { IfErr result (λ e. IsUnwrittenFor e (O.told out.old) (O.told out.new)) }
 {
     let mut rest = piece;
     while !rest.is_empty() {

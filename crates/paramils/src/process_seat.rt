@@ -268,17 +268,7 @@ impl<'a, R: Files<File = File> + Processes + Clock + AllocGlobal> ProcessSeat<'a
 }
 
 impl<'a, R: Files<File = File> + Processes + Clock + AllocGlobal> Spawner for ProcessSeat<'a, R> {
-    ghost idle = { λ s. is_none s.child };
-
-    ghost held = { λ s. s.is_held };
-
-    ghost current = { λ s. s.runs.current };
-
-    ghost failed_run = { λ s. s.runs.failed_run };
-
-    ghost started = { λ _. None };
-
-    ghost faults = { λ s. s.faults };
+    ghost told = { λ s. record { idle = is_none s.child; held = s.is_held; current = s.runs.current; failed_run = s.runs.failed_run; started = None; folders = None; faults = s.faults } };
 
     ghost truth = { None };
 

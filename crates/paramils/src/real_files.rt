@@ -40,9 +40,7 @@ fn first_bytes<R: std::rt::Files + AllocGlobal>(rt: &R, name: &str) -> io::Resul
 }
 
 impl<'a, R: std::rt::Files + AllocGlobal> outside::Files for RealFiles<'a, R> {
-    ghost contents = { λ _. None };
-
-    ghost faults = { λ s. s.faults };
+    ghost told = { λ s. record { contents = None; faults = s.faults } };
 
     /// Reads a whole file, and of a longer one its first 2^32 bytes. Memory where the
     /// system or the allocator has none left; Failed at every other error.

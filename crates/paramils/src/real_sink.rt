@@ -71,11 +71,7 @@ fn write_through<W: Write>(stream: &mut W, piece: &[u8]) -> io::Result<usize>
 }
 
 impl<W: Write + Drop> Sink for RealSink<W> {
-    ghost taken = { λ _. None };
-
-    ghost faults = { λ s. s.faults };
-
-    ghost empties = { λ s. s.empties };
+    ghost told = { λ s. record { taken = None; faults = s.faults; empties = s.empties } };
 
     /// One write of the stream, and a flush. Failed at every error of either, also where
     /// a signal interrupts the call; after a flush that failed, a part may have been taken.

@@ -38,8 +38,8 @@ fn example_run(alloc: Global) -> Result<Run, Memory> {
 
 /// Starts the example run of a program in a folder.
 fn starts_in<S: Spawner>(alloc: Global, seat: &mut S, algo: &str, dir: &str) -> Result<(), Fault>
-    requires { IsTrue (S.idle seat.old) }
-    ensures { S.idle seat.new ≡ not (is_ok result) }
+    requires { IsTrue (S.told seat.old).idle }
+    ensures { (S.told seat.new).idle ≡ not (is_ok result) }
 {
     let Ok(run) = example_run(alloc) else {
         return Err(Fault::Memory);
@@ -55,17 +55,17 @@ fn starts_in<S: Spawner>(alloc: Global, seat: &mut S, algo: &str, dir: &str) -> 
 
 /// Starts the example run of a program in this folder.
 fn starts<S: Spawner>(alloc: Global, seat: &mut S, algo: &str) -> Result<(), Fault>
-    requires { IsTrue (S.idle seat.old) }
-    ensures { S.idle seat.new ≡ not (is_ok result) }
+    requires { IsTrue (S.told seat.old).idle }
+    ensures { (S.told seat.new).idle ≡ not (is_ok result) }
 {
     starts_in(alloc, seat, algo, ".")
 }
 
 /// Looks for at least a minute whether the child has ended.
 fn has_ended<S: Spawner>(seat: &mut S) -> bool
-    requires { S.idle seat.old ≡ false }
-    ensures held { result ≡ true → IsTrue (S.held seat.new) }
-    ensures idle { result ≡ true → IsTrue (S.idle seat.new) }
+    requires { (S.told seat.old).idle ≡ false }
+    ensures held { result ≡ true → IsTrue (S.told seat.new).held }
+    ensures idle { result ≡ true → IsTrue (S.told seat.new).idle }
 {
     for _ in 0..60_000 {
         match seat.poll() {
@@ -79,8 +79,8 @@ fn has_ended<S: Spawner>(seat: &mut S) -> bool
 
 /// Whether the child ends with this output.
 fn ends_with<S: Spawner>(seat: &mut S, output: &[u8]) -> bool
-    requires { S.idle seat.old ≡ false }
-    ensures { result ≡ true → IsTrue (S.idle seat.new) }
+    requires { (S.told seat.old).idle ≡ false }
+    ensures { result ≡ true → IsTrue (S.told seat.new).idle }
 {
     if !has_ended(seat) {
         return false;
@@ -120,8 +120,8 @@ fn is_there<R: std::rt::Files>(rt: &R, place: &io::Result<String>) -> Option<boo
 
 /// A child that would sleep for ten minutes is killed, and then it is gone.
 fn kills<S: Spawner, R: Abort + std::rt::Files + Clock + AllocGlobal>(rt: &R, seat: &mut S)
-    requires { IsTrue (S.idle seat.old) }
-    ensures { IsTrue (S.idle seat.new) }
+    requires { IsTrue (S.told seat.old).idle }
+    ensures { IsTrue (S.told seat.new).idle }
 {
     let start = starts(rt.alloc(), seat, "sh paramils-test-sleeps");
     assert!(rt; start.is_ok());
@@ -134,8 +134,8 @@ fn kills<S: Spawner, R: Abort + std::rt::Files + Clock + AllocGlobal>(rt: &R, se
 
 /// A child says its words.
 fn says<S: Spawner>(rt: &impl Abort, alloc: Global, seat: &mut S)
-    requires { IsTrue (S.idle seat.old) }
-    ensures { IsTrue (S.idle seat.new) }
+    requires { IsTrue (S.told seat.old).idle }
+    ensures { IsTrue (S.told seat.new).idle }
 {
     let start = starts(alloc, seat, "sh paramils-test-says");
     assert!(rt; start.is_ok());
@@ -167,8 +167,8 @@ fn is_last_part(output: &[u8]) -> bool {
 
 /// Whether the child ends, and the last part of its output is handed out.
 fn ends_with_last_part<S: Spawner>(seat: &mut S) -> bool
-    requires { S.idle seat.old ≡ false }
-    ensures { result ≡ true → IsTrue (S.idle seat.new) }
+    requires { (S.told seat.old).idle ≡ false }
+    ensures { result ≡ true → IsTrue (S.told seat.new).idle }
 {
     if !has_ended(seat) {
         return false;
@@ -178,8 +178,8 @@ fn ends_with_last_part<S: Spawner>(seat: &mut S) -> bool
 
 /// A child writes more than is kept.
 fn writes_much<S: Spawner>(rt: &impl Abort, alloc: Global, seat: &mut S)
-    requires { IsTrue (S.idle seat.old) }
-    ensures { IsTrue (S.idle seat.new) }
+    requires { IsTrue (S.told seat.old).idle }
+    ensures { IsTrue (S.told seat.new).idle }
 {
     let start = starts(alloc, seat, "sh paramils-test-long");
     assert!(rt; start.is_ok());
@@ -189,7 +189,7 @@ fn writes_much<S: Spawner>(rt: &impl Abort, alloc: Global, seat: &mut S)
 
 /// One child after another in the same seat.
 fn runs_children<S: Spawner, R: Abort + std::rt::Files + Clock + AllocGlobal>(rt: &R, seat: &mut S)
-    requires { IsTrue (S.idle seat.old) }
+    requires { IsTrue (S.told seat.old).idle }
 {
     kills(rt, seat);
     writes_much(rt, rt.alloc(), seat);
@@ -210,10 +210,10 @@ fn children_run_and_are_killed(rt: HostRuntime) -> Result<(), Fail> {
 
 /// Whether the children of two seats run side by side and each seat gets its own one's output.
 fn are_apart<S: Spawner>(alloc: Global, one: &mut S, other: &mut S) -> bool
-    requires one { IsTrue (S.idle one.old) }
-    requires other { IsTrue (S.idle other.old) }
-    ensures one { result ≡ true → IsTrue (S.idle one.new) }
-    ensures other { result ≡ true → IsTrue (S.idle other.new) }
+    requires one { IsTrue (S.told one.old).idle }
+    requires other { IsTrue (S.told other.old).idle }
+    ensures one { result ≡ true → IsTrue (S.told one.new).idle }
+    ensures other { result ≡ true → IsTrue (S.told other.new).idle }
 {
     if starts(alloc, one, "sh paramils-test-answers 1.500000").is_err() {
         return false;
@@ -229,8 +229,8 @@ fn are_apart<S: Spawner>(alloc: Global, one: &mut S, other: &mut S) -> bool
 
 /// Whether that is so fifty times.
 fn are_always_apart<S: Spawner>(alloc: Global, one: &mut S, other: &mut S) -> bool
-    requires one { IsTrue (S.idle one.old) }
-    requires other { IsTrue (S.idle other.old) }
+    requires one { IsTrue (S.told one.old).idle }
+    requires other { IsTrue (S.told other.old).idle }
 {
     for _ in 0..50 {
         if !are_apart(alloc, one, other) {
@@ -265,8 +265,8 @@ fn fails_so<S: Spawner, F: Files>(
     name: &str,
     start: &FailedStart,
 ) -> bool
-    requires { IsTrue (S.idle seat.old) }
-    ensures { result ≡ true → IsTrue (S.idle seat.new) }
+    requires { IsTrue (S.told seat.old).idle }
+    ensures { result ≡ true → IsTrue (S.told seat.new).idle }
 {
     let (algo, dir, why) = *start;
     match starts_in(alloc, seat, algo, dir) {
@@ -282,7 +282,7 @@ fn first_other<S: Spawner, F: Files>(
     files: &mut F,
     starts: &[FailedStart],
 ) -> Option<&'static str>
-    requires { IsTrue (S.idle seat.old) }
+    requires { IsTrue (S.told seat.old).idle }
 {
     for start in starts {
         if !fails_so(alloc, seat, files, "paramils-seat-9.err", start) {
@@ -357,7 +357,7 @@ fn fail_without_files<S: Spawner, F: Files, R: std::rt::Files + AllocGlobal>(
     seat: &mut S,
     files: &mut F,
 ) -> (bool, bool)
-    requires { IsTrue (S.idle seat.old) }
+    requires { IsTrue (S.told seat.old).idle }
 {
     let why = "sh couldn't be started in .: Is a directory (os error 21)\n";
     if !fails_so(

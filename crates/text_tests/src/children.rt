@@ -60,9 +60,9 @@ fn example_script(alloc: Global) -> Result<Script, Memory> {
 
 /// The first child is solved at the second look.
 fn first_child(rt: &impl Abort, seat: &mut TableSeat<Steady>, words: &[Text], run: &Run)
-    requires idle { IsTrue seat.old.idle }
+    requires idle { IsTrue seat.old.told.idle }
     requires words { AreWordsOf (codes ".") words.now run.now }
-    ensures { IsTrue seat.new.idle }
+    ensures { IsTrue seat.new.told.idle }
 {
     assert!(rt; seat.start(".", words, run).is_ok());
     assert!(rt; matches!(seat.poll(), Ok(Poll::Pending)));
@@ -73,7 +73,7 @@ fn first_child(rt: &impl Abort, seat: &mut TableSeat<Steady>, words: &[Text], ru
 
 /// The second start fails, and the third look.
 fn failing_children(rt: &impl Abort, seat: &mut TableSeat<Steady>, words: &[Text], run: &Run)
-    requires idle { IsTrue seat.old.idle }
+    requires idle { IsTrue seat.old.told.idle }
     requires words { AreWordsOf (codes ".") words.now run.now }
 {
     assert!(rt; seat.start(".", words, run).is_err());
@@ -115,24 +115,24 @@ fn seat_follows_its_script(rt: HostRuntime) -> Result<(), Fail> {
 
 /// Whether a child is started.
 fn is_started(seat: &mut TableSeat<Steady>, words: &[Text], run: &Run) -> bool
-    requires idle { IsTrue seat.old.idle }
+    requires idle { IsTrue seat.old.told.idle }
     requires words { AreWordsOf (codes ".") words.now run.now }
-    ensures { IsTrue result → seat.new.idle ≡ false }
+    ensures { IsTrue result → seat.new.told.idle ≡ false }
 {
     seat.start(".", words, run).is_ok()
 }
 
 /// Whether the child is pending at this look.
 fn is_pending(seat: &mut TableSeat<Steady>) -> bool
-    requires { seat.old.idle ≡ false }
-    ensures { IsTrue result → seat.new.idle ≡ false }
+    requires { seat.old.told.idle ≡ false }
+    ensures { IsTrue result → seat.new.told.idle ≡ false }
 {
     matches!(seat.poll(), Ok(Poll::Pending))
 }
 
 /// Whether the child has ended at this look, and is read as solved after three seconds.
 fn is_solved(seat: &mut TableSeat<Steady>, cutoff: Micros) -> bool
-    requires { seat.old.idle ≡ false }
+    requires { seat.old.told.idle ≡ false }
 {
     match seat.poll() {
         Ok(Poll::Ended) => { answer_of(seat.output(), cutoff) == Answer::Solved(Micros(3_000_000)) }
@@ -142,9 +142,9 @@ fn is_solved(seat: &mut TableSeat<Steady>, cutoff: Micros) -> bool
 
 /// Whether a child is pending at two looks; it is killed then.
 fn is_killed(seat: &mut TableSeat<Steady>, words: &[Text], run: &Run) -> bool
-    requires idle { IsTrue seat.old.idle }
+    requires idle { IsTrue seat.old.told.idle }
     requires words { AreWordsOf (codes ".") words.now run.now }
-    ensures { IsTrue result → IsTrue seat.new.idle }
+    ensures { IsTrue result → IsTrue seat.new.told.idle }
 {
     if !is_started(seat, words, run) || !is_pending(seat) || !is_pending(seat) {
         return false;
@@ -155,7 +155,7 @@ fn is_killed(seat: &mut TableSeat<Steady>, words: &[Text], run: &Run) -> bool
 
 /// Whether the kill of the first child is no fault, and the second child ends.
 fn goes_on(seat: &mut TableSeat<Steady>, words: &[Text], run: &Run) -> bool
-    requires idle { IsTrue seat.old.idle }
+    requires idle { IsTrue seat.old.told.idle }
     requires words { AreWordsOf (codes ".") words.now run.now }
 {
     let right = seat.starts().len() == 1 && seat.faults() == 0;
@@ -164,7 +164,7 @@ fn goes_on(seat: &mut TableSeat<Steady>, words: &[Text], run: &Run) -> bool
 
 /// Whether the first child is killed, and the second one ends.
 fn outlives_a_kill(seat: &mut TableSeat<Steady>, words: &[Text], run: &Run) -> bool
-    requires idle { IsTrue seat.old.idle }
+    requires idle { IsTrue seat.old.told.idle }
     requires words { AreWordsOf (codes ".") words.now run.now }
 {
     let right = is_killed(seat, words, run) && goes_on(seat, words, run);

@@ -16,11 +16,7 @@ struct Narrow {
 impl Sink for Narrow {
     ghost use Rattle.std.specs.Prelude.{Some};
 
-    ghost taken = { λ s. Some s.bytes.items };
-
-    ghost faults = { λ s. 0 };
-
-    ghost empties = { λ s. 0 };
+    ghost told = { λ s. record { taken = Some s.bytes.items; faults = 0; empties = 0 } };
 
     fn write(&mut self, piece: &[u8]) -> Result<usize, Fault> {
         let part = match piece.get(..3) {

@@ -4,3 +4,4 @@ mod PresentAsks
 mod RunEndings
 mod PromiseLemmas
 mod CallEndings
+mod ReadingCauses

@@ -14,7 +14,7 @@ use Rattle.ils_face.specs.Steady.{IsSteady, IsAsk}
 use Rattle.ils_face.specs.Follows.{Follows, sums_under}
 use Rattle.ils_face.specs.Traces.{question_of, IsReplyBy, IsUnknown, IsFinal}
 use Rattle.ils_face.proofs.Traces.{IsTraced, traced_first, traced_on, traced_final, traced_abort}
-use Rattle.tuner.specs.SearchEnds.{IsSoundView}
+use Rattle.tuner.specs.SearchEnds.{IsSearched}
 
 -- the ask is shown under these rules after these replies, which fit
 pub record IsPresent (shown : Rules → List Reply → View) (rules : Rules) (replies : List Reply) (ask : Ask) : Type 0 where
@@ -35,11 +35,13 @@ present_ask shown rules replies ask steady h =
     let P : Ask → Type 0 = λ a. IsAsk rules a in
     subst P (sym h.value) ((steady rules h.ruled).asks replies h.fitting)
 
-pub present_sound : (shown : Rules → List Reply → View) (rules : Rules) (replies : List Reply) (ask : Ask)
-    → ((r : Rules) → AreRules r → IsSteady r (shown r)) → IsPresent shown rules replies ask → IsSoundView rules (shown rules replies)
-present_sound shown rules replies ask steady h =
+-- at the end all comparisons were made
+pub present_searched : (shown : Rules → List Reply → View) (rules : Rules) (replies : List Reply) (ask : Ask)
+    → ((r : Rules) → AreRules r → IsSteady r (shown r)) → IsPresent shown rules replies ask → ask ≡ End → IsSearched rules (shown rules replies).entries (shown rules replies).last
+present_searched shown rules replies ask steady h over =
     let laws = steady rules h.ruled in
-    record { entries = laws.entries replies h.fitting; last = laws.incumbent replies h.fitting }
+    let ended = sym h.value ∙ over in
+    record { trajectory = laws.trajectory replies h.fitting; opened = laws.opened replies h.fitting ended; spent = laws.spent replies h.fitting ended }
 
 -- a reply brings the end nearer
 pub present_falls : (shown : Rules → List Reply → View) (rules : Rules) (replies : List Reply) (ask : Ask) (reply : Reply) (own own' : Rules) (replies' : List Reply)

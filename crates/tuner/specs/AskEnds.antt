@@ -2,8 +2,8 @@
 use Rattle.std.specs.Prelude.{ℕ, ◌≡◌, List, Option, Some}
 use Rattle.std.specs.Option.{option_map}
 use Rattle.objective.specs.declared.Sum.{Sum}
-use Rattle.outside.specs.declared.runs.Run.{Run}
 use Rattle.outside.specs.Counts.{Rose}
+use Rattle.outside.specs.ToldStates.{SpawnerTold}
 use Rattle.param_space.specs.Configurations.{IsConfig}
 use Rattle.uncapped.specs.Procedure.{Question}
 use Rattle.ils_face.specs.declared.asks.Reply.{Reply}
@@ -22,11 +22,11 @@ abbrev pub question : List ℕ → ℕ → Option Sum → Question
 question config n bound = record { config = config; places = n; bound = bound_of bound }
 
 -- the run of a configuration at a place failed, and the spawner's count rose
-pub record IsFailure (problem : Problem) (faults faults' : ℕ) (failed : Option Run) (config : List ℕ) (place : ℕ) : Type 0 where
+pub record IsFailure (problem : Problem) (before after : SpawnerTold) (config : List ℕ) (place : ℕ) : Type 0 where
   pub sound : IsConfig problem.rules.space config
   pub in_range : IsPlace problem.rules.max_runs place
-  pub run : failed ≡ Some (run_at problem config place)
-  pub rose : Rose faults faults'
+  pub run : after.failed_run ≡ Some (run_at problem config place)
+  pub rose : Rose before.faults after.faults
 
 -- the fact of the reply, where there is one
 abbrev pub IfReply : Met → (Reply → Type 0) → Type 0

@@ -1,15 +1,37 @@
--- How a search ends, by cases.
-use Rattle.std.specs.Prelude.{ℕ, All, List}
+-- What a search that made all comparisons comes to, and how a search ends, by cases.
+use Rattle.std.specs.Prelude.{ℕ, ◌≡◌, List, map, Option, IsSome}
+use Rattle.objective.specs.declared.Outcome.{Outcome}
+use Rattle.outside.specs.declared.runs.Key.{Key}
 use Rattle.param_space.specs.Configurations.{IsConfig}
 use Rattle.ils_face.specs.Rules.{Rules}
-use Rattle.ils_face.specs.Views.{View}
+use Rattle.ils_face.specs.Trajectories.{IsTrajectory, newest}
+use Rattle.uncapped.specs.Procedure.{Incumbent, Finished}
+use Rattle.uncapped.specs.Uncapped
+use Rattle.tuner.specs.Problem.{Problem}
+use Rattle.tuner.specs.ProblemRuns.{table_of, uncapped_run}
 use Rattle.tuner.specs.declared.searching.Searched.{Searched}
 use Rattle.tuner.specs.declared.searching.Searched.TheVariants.{Ended, Aborted, Failed, Memory}
 
--- all incumbents that are shown are allowed canonical configurations
-pub record IsSoundView (rules : Rules) (view : View) : Type 0 where
-  pub entries : All (λ e. IsConfig rules.space e.config) view.entries
-  pub last : IsConfig rules.space view.last.config
+-- entries and a last line of a search under these rules that made all comparisons
+pub record IsSearched (rules : Rules) (entries : List Incumbent) (last : Incumbent) : Type 0 where
+  pub trajectory : IsTrajectory rules.max_runs (IsConfig rules.space) entries last
+  pub opened : IsSome (newest entries)
+  pub spent : last.compared ≡ rules.budget
+
+-- a run of the procedure finished with these entries and this last line
+pub record RanTo (run : Uncapped.Run) (entries : List Incumbent) (last : Incumbent) : Type 0 where
+  pub finished : run.end ≡ Finished
+  pub all : entries ≡ map (λ added. added.entry) run.entries
+  pub end : last ≡ run.last
+
+-- the run of the uncapped procedure over the seats' truth
+abbrev pub true_run : Option (Key → Outcome) → Problem → Uncapped.Run
+true_run truth problem = uncapped_run problem (table_of truth problem)
+
+-- what a search of a problem prints, where it made all comparisons: where a truth is told, what the uncapped procedure comes to
+pub record IsTrajectoryOf (problem : Problem) (truth : Option (Key → Outcome)) (entries : List Incumbent) (last : Incumbent) : Type 0 where
+  pub searched : IsSearched problem.rules entries last
+  pub told : IsSome truth → RanTo (true_run truth problem) entries last
 
 -- the fact, where the search ended
 abbrev pub OnEnded : Searched → Type 0 → Type 0

@@ -56,18 +56,18 @@ fn cost_at<R: Wait, S: Spawner>(
     place: u32,
     spawner: &mut S,
 ) -> Evaluated
-    requires idle { IsTrue (S.idle spawner.old) }
+    requires idle { IsTrue (S.told spawner.old).idle }
     requires belongs { Belongs problem.now.rules.space.params config.now }
     requires first { 1 ≤ place }
     requires last { place ≤ problem.now.rules.max_runs }
-    ensures idle { IsTrue (S.idle spawner.new) }
-    ensures counts { S.faults spawner.old ≤ S.faults spawner.new }
+    ensures idle { IsTrue (S.told spawner.new).idle }
+    ensures counts { (S.told spawner.old).faults ≤ (S.told spawner.new).faults }
     ensures sum { IfSum result (λ x. (outcome : Key → Outcome) → S.truth ≡ Some outcome → cost_of problem.now.rules.limits (table_of (Some outcome) problem.now config.now place) ≡ Some x) }
     ensures bound { IfSum result (λ x. x ≤ 1000 * max_cutoff) }
     ensures aborted { OnAborted result ((outcome : Key → Outcome) → S.truth ≡ Some outcome → cost_of problem.now.rules.limits (table_of (Some outcome) problem.now config.now place) ≡ None) }
     ensures failed { IfFailed result (λ i. i ≡ place) }
-    ensures fault { IfFailed result (λ i. Rose (S.faults spawner.old) (S.faults spawner.new)) }
-    ensures failed_run { IfFailed result (λ i. S.failed_run spawner.new ≡ Some (run_at problem.now config.now place)) }
+    ensures fault { IfFailed result (λ i. Rose (S.told spawner.old).faults (S.told spawner.new).faults) }
+    ensures failed_run { IfFailed result (λ i. (S.told spawner.new).failed_run ≡ Some (run_at problem.now config.now place)) }
 {
     let Ok(run) = problem.run_at(alloc, config, place) else {
         return Evaluated::Memory;
@@ -92,16 +92,16 @@ pub(crate) fn evaluate<R: Wait, S: Spawner>(
     n: u32,
     spawner: &mut S,
 ) -> Evaluated
-    requires idle { IsTrue (S.idle spawner.old) }
+    requires idle { IsTrue (S.told spawner.old).idle }
     requires belongs { Belongs problem.now.rules.space.params config.now }
     requires within { n ≤ problem.now.rules.max_runs }
-    ensures idle { IsTrue (S.idle spawner.new) }
-    ensures counts { S.faults spawner.old ≤ S.faults spawner.new }
+    ensures idle { IsTrue (S.told spawner.new).idle }
+    ensures counts { (S.told spawner.old).faults ≤ (S.told spawner.new).faults }
     ensures sum { IfSum result (λ x. (outcome : Key → Outcome) → S.truth ≡ Some outcome → sums_of problem.now outcome config.now n ≡ Some x) }
     ensures aborted { OnAborted result ((outcome : Key → Outcome) → S.truth ≡ Some outcome → sums_of problem.now outcome config.now n ≡ None) }
     ensures failed { IfFailed result (λ place. IsPlace problem.now.rules.max_runs place) }
-    ensures fault { IfFailed result (λ place. Rose (S.faults spawner.old) (S.faults spawner.new)) }
-    ensures failed_run { IfFailed result (λ place. S.failed_run spawner.new ≡ Some (run_at problem.now config.now place)) }
+    ensures fault { IfFailed result (λ place. Rose (S.told spawner.old).faults (S.told spawner.new).faults) }
+    ensures failed_run { IfFailed result (λ place. (S.told spawner.new).failed_run ≡ Some (run_at problem.now config.now place)) }
 {
     let _ = &problem.rules.max_runs; // its type keeps it in range
     let mut sum = Sum(0);

@@ -65,14 +65,14 @@ fn meet_question<R: Wait, S: Spawner>(
     bound: Option<Sum>,
     spawner: &mut S,
 ) -> Met
-    requires idle { IsTrue (S.idle spawner.old) }
+    requires idle { IsTrue (S.told spawner.old).idle }
     requires evaluation { IsEvaluation problem.now.rules config.now n }
-    ensures idle { IsTrue (S.idle spawner.new) }
-    ensures counts { S.faults spawner.old ≤ S.faults spawner.new }
+    ensures idle { IsTrue (S.told spawner.new).idle }
+    ensures counts { (S.told spawner.old).faults ≤ (S.told spawner.new).faults }
     ensures fits { IfReply result (λ r. Replies.Fits (Replies.ask_of config.now n (bound_of bound)) r) }
     ensures reply { IfReply result (λ r. (outcome : Key → Outcome) → S.truth ≡ Some outcome → IsReplyBy (sums_of problem.now outcome) r (question config.now n bound)) }
     ensures aborted { OnAbort result ((outcome : Key → Outcome) → S.truth ≡ Some outcome → IsUnknown (sums_of problem.now outcome) (question config.now n bound)) }
-    ensures failed { IfFault result (λ θ place. IsFailure problem.now (S.faults spawner.old) (S.faults spawner.new) (S.failed_run spawner.new) θ place) }
+    ensures failed { IfFault result (λ θ place. IsFailure problem.now (S.told spawner.old) (S.told spawner.new) θ place) }
     ensures unended { OnEnd result ⊥ }
 {
     match evaluate(rt, alloc, problem, config, n, spawner) {
@@ -94,15 +94,15 @@ pub(crate) fn meet<R: Wait, S: Spawner>(
     ask: &Ask,
     spawner: &mut S,
 ) -> Met
-    requires idle { IsTrue (S.idle spawner.old) }
+    requires idle { IsTrue (S.told spawner.old).idle }
     requires ask { IsAsk problem.now.rules ask.now }
-    ensures idle { IsTrue (S.idle spawner.new) }
-    ensures counts { S.faults spawner.old ≤ S.faults spawner.new }
+    ensures idle { IsTrue (S.told spawner.new).idle }
+    ensures counts { (S.told spawner.old).faults ≤ (S.told spawner.new).faults }
     ensures fits { IfReply result (λ r. Replies.Fits ask.now r) }
     ensures reply { IfReply result (λ r. (outcome : Key → Outcome) → S.truth ≡ Some outcome → IsSomeAnd (question_of ask.now) (IsReplyBy (sums_of problem.now outcome) r)) }
     ensures end { OnEnd result (ask.now ≡ Ask.End) }
     ensures aborted { OnAbort result ((outcome : Key → Outcome) → S.truth ≡ Some outcome → IsSomeAnd (question_of ask.now) (IsUnknown (sums_of problem.now outcome))) }
-    ensures failed { IfFault result (λ θ place. IsFailure problem.now (S.faults spawner.old) (S.faults spawner.new) (S.failed_run spawner.new) θ place) }
+    ensures failed { IfFault result (λ θ place. IsFailure problem.now (S.told spawner.old) (S.told spawner.new) θ place) }
 {
     match ask {
         Ask::Full { config, n } => meet_question(rt, alloc, problem, config, *n, None, spawner),

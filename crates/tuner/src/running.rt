@@ -25,12 +25,12 @@ pub(crate) enum RunEnd {
 
 /// Waits until the child has ended. False where a look failed.
 fn wait_for_end<R: Wait, S: Spawner>(rt: &R, spawner: &mut S) -> bool
-    requires { S.idle spawner.old ≡ false }
-    ensures idle { IsTrue (S.idle spawner.new) }
-    ensures counts { S.faults spawner.old ≤ S.faults spawner.new }
-    ensures same { S.current spawner.new ≡ S.current spawner.old }
-    ensures ended { MatchBool result (IsTrue (S.held spawner.new)) (Rose (S.faults spawner.old) (S.faults spawner.new)) }
-    ensures failed_run { result ≡ false → S.failed_run spawner.new ≡ S.current spawner.old }
+    requires { (S.told spawner.old).idle ≡ false }
+    ensures idle { IsTrue (S.told spawner.new).idle }
+    ensures counts { (S.told spawner.old).faults ≤ (S.told spawner.new).faults }
+    ensures same { (S.told spawner.new).current ≡ (S.told spawner.old).current }
+    ensures ended { MatchBool result (IsTrue (S.told spawner.new).held) (Rose (S.told spawner.old).faults (S.told spawner.new).faults) }
+    ensures failed_run { result ≡ false → (S.told spawner.new).failed_run ≡ (S.told spawner.old).current }
 {
     for _ in rt.forever() {
         match spawner.poll() {
@@ -50,13 +50,13 @@ pub(crate) fn run_once<R: Wait, S: Spawner>(
     program: &Program,
     run: &Run,
 ) -> RunEnd
-    requires { IsTrue (S.idle spawner.old) }
-    ensures idle { IsTrue (S.idle spawner.new) }
-    ensures counts { S.faults spawner.old ≤ S.faults spawner.new }
+    requires { IsTrue (S.told spawner.old).idle }
+    ensures idle { IsTrue (S.told spawner.new).idle }
+    ensures counts { (S.told spawner.old).faults ≤ (S.told spawner.new).faults }
     ensures answer { IfAnswer result (λ a. (outcome : Key → Outcome) → S.truth ≡ Some outcome → a ≡ seen (outcome run.now.key) run.now.cutoff.0) }
     ensures within { IfAnswer result (λ a. IsWithin a run.now.cutoff.0) }
-    ensures fault { OnFailed result (Rose (S.faults spawner.old) (S.faults spawner.new)) }
-    ensures failed_run { OnFailed result (S.failed_run spawner.new ≡ Some run.now) }
+    ensures fault { OnFailed result (Rose (S.told spawner.old).faults (S.told spawner.new).faults) }
+    ensures failed_run { OnFailed result ((S.told spawner.new).failed_run ≡ Some run.now) }
 {
     let Ok(words) = words_of(alloc, program, run) else {
         return RunEnd::Memory;

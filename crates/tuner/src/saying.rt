@@ -2,7 +2,7 @@
 ghost use Rattle.std.specs.Prelude.{◌≡◌, ◌≤◌, ℕ, List, IfOk};
 ghost use Rattle.std.specs.List.{flat_map};
 ghost use Rattle.tuner.specs.Lines.{no_memory_line};
-ghost use Rattle.tuner.specs.Promises.{taking_by, Said, Reported};
+ghost use Rattle.tuner.specs.PrintedTexts.{Said, Reported};
 
 use crate::status::Status;
 use objective::Memory;
@@ -10,7 +10,7 @@ use outside::{Sink, Unwritten, write_whole};
 
 /// Writes the last line of a call that is to end so. The answer is how it does end.
 pub(crate) fn say<O: Sink>(out: &mut O, line: &[u8], end: Status) -> Status
-    ensures { Said (taking_by O.taken O.faults O.empties out.old out.new) end result line.now }
+    ensures { Said (O.told out.old) (O.told out.new) end result line.now }
 {
     match write_whole(out, line) {
         Ok(()) => end,
@@ -21,7 +21,7 @@ pub(crate) fn say<O: Sink>(out: &mut O, line: &[u8], end: Status) -> Status
 
 /// Writes that there is no memory left.
 pub(crate) fn say_no_memory<O: Sink>(out: &mut O) -> Status
-    ensures { Said (taking_by O.taken O.faults O.empties out.old out.new) Status.NoMemory result no_memory_line }
+    ensures { Said (O.told out.old) (O.told out.new) Status.NoMemory result no_memory_line }
 {
     say(out, b"nomemory\n", Status::NoMemory)
 }
@@ -29,7 +29,7 @@ pub(crate) fn say_no_memory<O: Sink>(out: &mut O) -> Status
 /// Writes the last line of a call that is to end so, or that there was no memory to make it.
 /// The answer is how it does end.
 pub(crate) fn say_made<O: Sink>(out: &mut O, line: Result<Vec<u8>, Memory>, end: Status) -> Status
-    ensures { (text : List ℕ) → IfOk line (λ l. l.items ≡ text) → Reported (taking_by O.taken O.faults O.empties out.old out.new) result end text }
+    ensures { (text : List ℕ) → IfOk line (λ l. l.items ≡ text) → Reported (O.told out.old) (O.told out.new) result end text }
 {
     match line {
         Ok(line) => say(out, line.as_slice(), end),
@@ -40,7 +40,7 @@ pub(crate) fn say_made<O: Sink>(out: &mut O, line: Result<Vec<u8>, Memory>, end:
 /// Writes the lines of a call that is to end so, each as one piece. The answer is how it
 /// does end.
 pub(crate) fn say_all<O: Sink>(out: &mut O, lines: &[Vec<u8>], end: Status) -> Status
-    ensures { Said (taking_by O.taken O.faults O.empties out.old out.new) end result (flat_map (λ line. line.items) lines.now) }
+    ensures { Said (O.told out.old) (O.told out.new) end result (flat_map (λ line. line.items) lines.now) }
 {
     for line in lines {
         match write_whole(out, line.as_slice()) {

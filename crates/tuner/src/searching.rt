@@ -6,7 +6,7 @@ ghost use Rattle.uncapped.specs.Procedure.{Aborted};
 ghost use Rattle.ils_face.specs.Traces.{IsFinal};
 ghost use Rattle.tuner.specs.AskEnds.{IsFailure};
 ghost use Rattle.tuner.specs.ProblemRuns.{table_of};
-ghost use Rattle.tuner.specs.SearchEnds.{IsSoundView, OnEnded, OnSearchAborted, IfSearchFailed};
+ghost use Rattle.tuner.specs.SearchEnds.{IsSearched, OnEnded, OnSearchAborted, IfSearchFailed};
 
 use crate::meeting::{Met, meet};
 use crate::problem::Problem;
@@ -43,16 +43,16 @@ pub(crate) fn meet_all<R: Wait, P: Search, S: Spawner>(
     search: &mut P,
     spawner: &mut S,
 ) -> Searched
-    requires idle { IsTrue (S.idle spawner.old) }
+    requires idle { IsTrue (S.told spawner.old).idle }
     requires rules { P.rules_of search.old ≡ problem.now.rules }
     requires none { P.replies_of search.old ≡ [] }
-    ensures idle { IsTrue (S.idle spawner.new) }
-    ensures counts { S.faults spawner.old ≤ S.faults spawner.new }
+    ensures idle { IsTrue (S.told spawner.new).idle }
+    ensures counts { (S.told spawner.old).faults ≤ (S.told spawner.new).faults }
     ensures rules { P.rules_of search.new ≡ problem.now.rules }
-    ensures sound { OnEnded result (IsSoundView problem.now.rules (P.shown problem.now.rules (P.replies_of search.new))) }
+    ensures searched { OnEnded result (let view = P.shown problem.now.rules (P.replies_of search.new) in IsSearched problem.now.rules view.entries view.last) }
     ensures ended { OnEnded result ((outcome : Key → Outcome) → S.truth ≡ Some outcome → IsFinal (P.shown problem.now.rules (P.replies_of search.new)) (P.plain problem.now.rules (table_of (Some outcome) problem.now))) }
     ensures aborted { OnSearchAborted result ((outcome : Key → Outcome) → S.truth ≡ Some outcome → (P.plain problem.now.rules (table_of (Some outcome) problem.now)).end ≡ Aborted) }
-    ensures failed { IfSearchFailed result (λ θ place. IsFailure problem.now (S.faults spawner.old) (S.faults spawner.new) (S.failed_run spawner.new) θ place) }
+    ensures failed { IfSearchFailed result (λ θ place. IsFailure problem.now (S.told spawner.old) (S.told spawner.new) θ place) }
 {
     loop {
         match meet(rt, alloc, problem, search.ask(), spawner) {

@@ -1,32 +1,40 @@
-//! Seats, and what their spawners tell of each problem.
+//! Seats.
 ghost use Rattle.std.specs.Prelude.{◌≡◌};
-ghost use Rattle.tuner.specs.Seats.{spawner_of};
 
 use outside::Spawner;
+use std::marker::Model;
 
-/// A place for one child at a time.
+/// A place for one child at a time. Contracts see it as what its spawner tells.
 #[derive(Drop)]
-pub struct Seat<S> {
+pub struct Seat<S: Spawner> {
     pub(crate) spawner: S,
+}
+
+impl<S: Spawner> Model for Seat<S> {
+    ghost use Rattle.outside.specs.ToldStates.{SpawnerTold};
+
+    ghost Value = { SpawnerTold };
+
+    ghost view = { λ seat. S.told seat.spawner };
 }
 
 impl<S: Spawner> Seat<S> {
     /// The seat of this spawner. Takes no memory.
     pub fn new(spawner: S) -> Seat<S>
-        ensures { spawner_of result ≡ spawner }
+        ensures { result ≡ S.told spawner }
     {
         Seat { spawner }
     }
 
     /// The spawner.
     pub fn spawner(&self) -> &S
-        ensures { result.now ≡ spawner_of self.now }
+        ensures { S.told result.now ≡ self.now }
     {
         &self.spawner
     }
 
     /// Drops what is kept of an earlier tuning; the spawner stays as it was.
     pub fn clear(&mut self)
-        ensures { spawner_of self.new ≡ spawner_of self.old }
+        ensures { self.new ≡ self.old }
     {}
 }

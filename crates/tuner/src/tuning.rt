@@ -1,11 +1,14 @@
 //! The top call.
 ghost use Rattle.std.specs.Prelude.{◌≡◌, ℕ, IsTrue, All, List, Ok, length};
+ghost use Rattle.outside.specs.WholePieces.{WroteBadly};
 ghost use Rattle.scenario_files.specs.Ranges.{AreWordsWithin};
 ghost use Rattle.scenario_files.specs.Words.{words_read};
+ghost use Rattle.tuner.specs.Calls.{Call, call_of};
+ghost use Rattle.tuner.specs.Causes.{HasCause};
 ghost use Rattle.tuner.specs.Lines;
-ghost use Rattle.tuner.specs.ProblemRuns.{table_of};
-ghost use Rattle.tuner.specs.Promises.{taking_by, call_by, running_by, Call, StatesProblem, Ending, HasCause, Headline, IsComplete, RefusesFaulty, RefusesFocused, RefusesMisused, RefusesUnseated, ReportsMisuse, ReportsRefusal, Reported};
-ghost use Rattle.tuner.specs.Seats.{spawner_of, first_count, first_run};
+ghost use Rattle.tuner.specs.PrintedTexts.{Ending, Reported};
+ghost use Rattle.tuner.specs.Promises.{Conducted, Headline, IsAbout, IsComplete, RefusesFaulty, RefusesFocused, RefusesMisused, RefusesUnseated};
+ghost use Rattle.tuner.specs.Refusals.{ReportsMisuse, ReportsRefusal};
 
 use crate::finishing::run_search;
 use crate::lines::{bad_file_line, read_fault_line, seats_line, usage_line};
@@ -15,10 +18,8 @@ use crate::reading::refusal::Refusal;
 use crate::saying::{say, say_made, say_no_memory};
 use crate::seat::Seat;
 use crate::status::Status;
-use crate::truth::Truth;
 use basic_ils::Basic;
 use ils_frame::Ils;
-use objective::World;
 use outside::{Files, Sink, Spawner};
 use plain_text::Text;
 use scenario_files::{Approach, WordFault, Words, read_words};
@@ -27,7 +28,7 @@ use std::sync::Wait;
 
 /// Prints why words are no call.
 fn refuse_words<O: Sink>(alloc: Global, fault: WordFault, out: &mut O) -> Status
-    ensures { ReportsMisuse fault (taking_by O.taken O.faults O.empties out.old out.new) result }
+    ensures { ReportsMisuse fault (O.told out.old) (O.told out.new) result }
 {
     match fault {
         WordFault::At { place } => {
@@ -39,7 +40,7 @@ fn refuse_words<O: Sink>(alloc: Global, fault: WordFault, out: &mut O) -> Status
 
 /// Prints why files make no problem.
 fn refuse_files<O: Sink>(alloc: Global, refusal: Refusal, out: &mut O) -> Status
-    ensures { ReportsRefusal refusal (taking_by O.taken O.faults O.empties out.old out.new) result }
+    ensures { ReportsRefusal refusal (O.told out.old) (O.told out.new) result }
 {
     match refusal {
         Refusal::BadFile {
@@ -61,7 +62,7 @@ fn refuse_files<O: Sink>(alloc: Global, refusal: Refusal, out: &mut O) -> Status
 
 /// Prints that there are fewer seats than are asked for.
 fn refuse_seats<O: Sink>(alloc: Global, asked: u32, given: u32, out: &mut O) -> Status
-    ensures { Reported (taking_by O.taken O.faults O.empties out.old out.new) result (Status.TooFewSeats asked given) (Lines.seats_line asked given) }
+    ensures { Reported (O.told out.old) (O.told out.new) result (Status.TooFewSeats asked given) (Lines.seats_line asked given) }
 {
     let line = seats_line(alloc, asked, given);
     say_made(out, line, Status::TooFewSeats { asked, given })
@@ -76,9 +77,9 @@ fn run_problem<R: Wait, O: Sink, S: Spawner>(
     out: &mut O,
     seats: &mut [Seat<S>],
 ) -> Status
-    requires { All (λ seat. IsTrue (S.idle (spawner_of seat))) seats.old }
-    ensures ending { (call : Call) → call.seats ≡ length seats.old → call.running ≡ running_by S.truth (table_of S.truth) S.faults S.failed_run seats.old seats.new → StatesProblem call problem.now → Ending call (taking_by O.taken O.faults O.empties out.old out.new) result }
-    ensures idle { All (λ seat. IsTrue (S.idle (spawner_of seat))) seats.new }
+    requires { All (λ seat. IsTrue seat.idle) seats.old }
+    ensures ending { (call : Call) → IsAbout call problem.now S.truth seats.old seats.new → Conducted call (O.told out.old) (O.told out.new) result }
+    ensures idle { All (λ seat. IsTrue seat.idle) seats.new }
 {
     let workers = problem.workers();
     if seats.len() < workers as usize {
@@ -89,7 +90,7 @@ fn run_problem<R: Wait, O: Sink, S: Spawner>(
         Approach::Basic => {
             let seat = &mut seats[0];
             seat.clear();
-            run_search::<R, Ils<Basic>, O, S>(rt, alloc, problem, out, &mut seat.spawner)
+            run_search::<R, Ils<Basic>, O, S>(rt, alloc, problem, out, seat)
         }
     }
 }
@@ -105,9 +106,10 @@ fn conduct_given<R: Wait, F: Files, O: Sink, S: Spawner>(
     seats: &mut [Seat<S>],
 ) -> Status
     requires words { AreWordsWithin given }
-    requires idle { All (λ seat. IsTrue (S.idle (spawner_of seat))) seats.old }
-    ensures ending { (words : List (List ℕ)) → words_read words ≡ Ok given → Ending (call_by words F.contents F.faults files.old files.new S.truth ⟦<Truth<S> as World>⟧.outcome S.faults S.failed_run seats.old seats.new) (taking_by O.taken O.faults O.empties out.old out.new) result }
-    ensures idle { All (λ seat. IsTrue (S.idle (spawner_of seat))) seats.new }
+    requires idle { All (λ seat. IsTrue seat.idle) seats.old }
+    ensures ending { (words : List (List ℕ)) → words_read words ≡ Ok given →
+        Conducted (call_of words (F.told files.old) (F.told files.new) S.truth seats.old seats.new) (O.told out.old) (O.told out.new) result }
+    ensures idle { All (λ seat. IsTrue seat.idle) seats.new }
 {
     match read_problem(alloc, files, given) {
         Ok(problem) => run_problem(rt, alloc, &problem, out, seats),
@@ -124,9 +126,9 @@ fn conduct<R: Wait, F: Files, O: Sink, S: Spawner>(
     out: &mut O,
     seats: &mut [Seat<S>],
 ) -> Status
-    requires { All (λ seat. IsTrue (S.idle (spawner_of seat))) seats.old }
-    ensures ending { Ending (call_by words.now F.contents F.faults files.old files.new S.truth ⟦<Truth<S> as World>⟧.outcome S.faults S.failed_run seats.old seats.new) (taking_by O.taken O.faults O.empties out.old out.new) result }
-    ensures idle { All (λ seat. IsTrue (S.idle (spawner_of seat))) seats.new }
+    requires { All (λ seat. IsTrue seat.idle) seats.old }
+    ensures ending { Conducted (call_of words.now (F.told files.old) (F.told files.new) S.truth seats.old seats.new) (O.told out.old) (O.told out.new) result }
+    ensures idle { All (λ seat. IsTrue seat.idle) seats.new }
 {
     match read_words(alloc, words) {
         Ok(given) => conduct_given(rt, alloc, given, files, out, seats),
@@ -149,25 +151,27 @@ pub fn tune<R: Wait, F: Files, O: Sink, S: Spawner + Send>(
     log: &mut O,
     seats: &mut [Seat<S>],
 ) -> Status
-    requires { All (λ seat. IsTrue (S.idle (spawner_of seat))) seats.old }
+    requires { All (λ seat. IsTrue seat.idle) seats.old }
 
-    // With Ok the output took the lines of the uncapped procedure, and nothing else.
-    ensures headline { result ≡ Status.Ok → Headline (call_by words.now F.contents F.faults files.old files.new S.truth ⟦<Truth<S> as World>⟧.outcome S.faults S.failed_run seats.old seats.new) (taking_by O.taken O.faults O.empties out.old out.new) }
+    // With Ok the output took the lines of a search that made all comparisons, and nothing
+    // else; where the seats tell a truth, they are those of the uncapped procedure.
+    ensures headline { Headline words.now (F.told files.old) S.truth (O.told out.old) (O.told out.new) result }
 
-    // Each other answer but NoMemory has its cause, and each refusal comes where its cause is.
-    ensures cause { HasCause (call_by words.now F.contents F.faults files.old files.new S.truth ⟦<Truth<S> as World>⟧.outcome S.faults S.failed_run seats.old seats.new) (taking_by O.taken O.faults O.empties out.old out.new) result }
-    ensures usage { RefusesMisused (call_by words.now F.contents F.faults files.old files.new S.truth ⟦<Truth<S> as World>⟧.outcome S.faults S.failed_run seats.old seats.new) result }
-    ensures bad_file { RefusesFaulty (call_by words.now F.contents F.faults files.old files.new S.truth ⟦<Truth<S> as World>⟧.outcome S.faults S.failed_run seats.old seats.new) result }
-    ensures too_few { RefusesUnseated (call_by words.now F.contents F.faults files.old files.new S.truth ⟦<Truth<S> as World>⟧.outcome S.faults S.failed_run seats.old seats.new) result }
-    ensures unbuilt { RefusesFocused (call_by words.now F.contents F.faults files.old files.new S.truth ⟦<Truth<S> as World>⟧.outcome S.faults S.failed_run seats.old seats.new) result }
+    // Each answer but NoMemory has its cause, and each refusal comes where its cause is.
+    ensures cause { HasCause words.now (F.told files.old) (F.told files.new) S.truth seats.old seats.new result }
+    ensures write_fault { result ≡ Status.WriteFault → WroteBadly (O.told out.old) (O.told out.new) }
+    ensures usage { RefusesMisused words.now result }
+    ensures bad_file { RefusesFaulty words.now (F.told files.old) result }
+    ensures too_few { RefusesUnseated words.now (F.told files.old) (length seats.old) result }
+    ensures unbuilt { RefusesFocused words.now (F.told files.old) (length seats.old) result }
 
-    // Where everything works the answer is Ok, or NoMemory.
-    ensures complete { IsComplete (call_by words.now F.contents F.faults files.old files.new S.truth ⟦<Truth<S> as World>⟧.outcome S.faults S.failed_run seats.old seats.new) (taking_by O.taken O.faults O.empties out.old out.new) result }
+    // Where files and seats work and nothing aborts, the answer is Ok, NoMemory or WriteFault.
+    ensures complete { IsComplete words.now (F.told files.old) (F.told files.new) S.truth seats.old seats.new result }
 
     // What the output holds after each answer, also where it couldn't be written whole.
-    ensures ending { Ending (call_by words.now F.contents F.faults files.old files.new S.truth ⟦<Truth<S> as World>⟧.outcome S.faults S.failed_run seats.old seats.new) (taking_by O.taken O.faults O.empties out.old out.new) result }
+    ensures ending { Ending words.now (F.told files.old) S.truth seats.new (O.told out.old) (O.told out.new) result }
     ensures log { log.new ≡ log.old }
-    ensures idle { All (λ seat. IsTrue (S.idle (spawner_of seat))) seats.new }
+    ensures idle { All (λ seat. IsTrue seat.idle) seats.new }
 {
     let _ = &log;
     conduct(rt, alloc, words, files, out, seats)

@@ -65,6 +65,8 @@ pub struct Tuning {
     pub printed: Vec<u8>,
     /// The words of each start of the first seat, parted by spaces, in a line of its own.
     pub starts: String,
+    /// The folders that these were started in, each in a line of its own.
+    pub folders: String,
     /// How many children the first seat started.
     pub started: usize,
     /// How many starts and looks of the first seat failed.
@@ -103,7 +105,7 @@ fn script(alloc: Global, faults: &Faults) -> Result<Script, Memory> {
 
 /// A seat with these faults.
 fn seat(alloc: Global, faults: &Faults) -> Result<Seat<TableSeat<Rows>>, Memory>
-    ensures { IfOk result (λ seat. IsTrue seat.spawner.idle) }
+    ensures { IfOk result (λ seat. IsTrue seat.idle) }
 {
     Ok(Seat::new(TableSeat::new(alloc, script(alloc, faults)?)?))
 }
@@ -131,6 +133,16 @@ fn all_starts(alloc: Global, seat: &TableSeat<Rows>) -> Result<String, Memory> {
     Ok(text)
 }
 
+/// The folder of each start of a seat.
+fn all_folders(alloc: Global, seat: &TableSeat<Rows>) -> Result<String, Memory> {
+    let mut text = String::new(alloc);
+    for folder in seat.folders() {
+        text.push_str(folder.as_str())?;
+        text.push('\n')?;
+    }
+    Ok(text)
+}
+
 /// What a tuning that ended so came to.
 fn outcome(
     alloc: Global,
@@ -145,6 +157,7 @@ fn outcome(
         status,
         printed,
         starts: all_starts(alloc, first)?,
+        folders: all_folders(alloc, first)?,
         started: first.starts().len(),
         failed: first.faults(),
         others: second.starts().len(),
@@ -161,7 +174,7 @@ fn tuned<R: Wait>(
     out: &mut MemorySink,
     seats: &mut [Seat<TableSeat<Rows>>],
 ) -> Status
-    requires { All (λ seat. IsTrue seat.spawner.idle) seats.old }
+    requires { All (λ seat. IsTrue seat.idle) seats.old }
 {
     let mut log = MemorySink::new(alloc);
     tune(rt, alloc, words, files, out, &mut log, seats)

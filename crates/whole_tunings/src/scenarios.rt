@@ -279,8 +279,18 @@ fn ran_usual<R: Wait>(
     ran(rt, alloc, words, &files, &NONE)
 }
 
+/// Whether each line names this folder.
+fn are_all_in(folders: &str, folder: &str) -> bool {
+    for line in folders.lines() {
+        if line != folder {
+            return false;
+        }
+    }
+    true
+}
+
 /// Whether one comparison of the usual scenario over these instances is printed, its children
-/// are started, and no read failed. The opening evaluation and the two of the comparison have
+/// are started in its folder, and no read failed. The opening evaluation and the two of the comparison have
 /// 100 runs each.
 fn usual_is_read<R: Wait>(
     rt: &R,
@@ -290,7 +300,8 @@ fn usual_is_read<R: Wait>(
     first: &str,
 ) -> Result<bool, Memory> {
     let ran = ran_usual(rt, alloc, SAPS_WORDS, instances)?;
-    Ok(has_printed(&ran, printed) && has_started(&ran, 300, first) && ran.unread == 0)
+    let right = has_printed(&ran, printed) && has_started(&ran, 300, first);
+    Ok(right && are_all_in(ran.folders.as_str(), "example_saps") && ran.unread == 0)
 }
 
 #[test]

@@ -5,4 +5,4 @@ use Rattle.paramils.proofs.all_seats.Goals as goal
 
 pub loop-number-preserved : goal.loop-number-preserved
 loop-number-preserved g c =
-    rw (← c.in_ok-push.ensures.items) at (All-push (λ seat. is_none seat.spawner.child ≡ true) _ c.new-in-loop-number.result c.loop-number.invariant (ap (λ s. is_none s.child) c.new-in-loop-number.ensures ∙ ap is_none c.in_ok-new.ensures.idle))
+    rw (← c.in_ok-push.ensures.items) at (All-push (λ seat. seat.idle ≡ true) _ c.new-in-loop-number.result c.loop-number.invariant (ap (λ told. told.idle) c.new-in-loop-number.ensures ∙ ap is_none c.in_ok-new.ensures.idle))

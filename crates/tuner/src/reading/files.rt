@@ -26,10 +26,10 @@ fn read_bytes<F: Files>(
     kind: FileKind,
     name: &str,
 ) -> Result<Vec<u8>, Refusal>
-    ensures same { F.contents files.new ≡ F.contents files.old }
-    ensures counts { F.faults files.old ≤ F.faults files.new }
-    ensures read { IfOk result (λ v. IfSome (F.contents files.old) (λ contents. file_bytes kind (contents name.now) ≡ Reads v.items)) }
-    ensures refused { IfErr result (λ e. IsCause e (F.contents files.old) (λ contents. file_bytes kind (contents name.now)) (IsFile kind name.now) (F.faults files.old) (F.faults files.new)) }
+    ensures same { (F.told files.new).contents ≡ (F.told files.old).contents }
+    ensures counts { (F.told files.old).faults ≤ (F.told files.new).faults }
+    ensures read { IfOk result (λ v. IfSome (F.told files.old).contents (λ contents. file_bytes kind (contents name.now) ≡ Reads v.items)) }
+    ensures refused { IfErr result (λ e. IsCause e (F.told files.old).contents (λ contents. file_bytes kind (contents name.now)) (IsFile kind name.now) (F.told files.old).faults (F.told files.new).faults) }
 {
     match files.read(name) {
         Ok(bytes) => Ok(bytes),
@@ -60,10 +60,10 @@ pub(crate) fn read_scenario_file<F: Files>(
     words: Draft,
 ) -> Result<Scenario, Refusal>
     requires { AreWithin words }
-    ensures same { F.contents files.new ≡ F.contents files.old }
-    ensures counts { F.faults files.old ≤ F.faults files.new }
-    ensures read { IfOk result (λ s. IfSome (F.contents files.old) (λ contents. scenario_reading contents name.now words ≡ Reads s)) }
-    ensures refused { IfErr result (λ e. IsCause e (F.contents files.old) (λ contents. scenario_reading contents name.now words) (IsFile FileKind.Scenario name.now) (F.faults files.old) (F.faults files.new)) }
+    ensures same { (F.told files.new).contents ≡ (F.told files.old).contents }
+    ensures counts { (F.told files.old).faults ≤ (F.told files.new).faults }
+    ensures read { IfOk result (λ s. IfSome (F.told files.old).contents (λ contents. scenario_reading contents name.now words ≡ Reads s)) }
+    ensures refused { IfErr result (λ e. IsCause e (F.told files.old).contents (λ contents. scenario_reading contents name.now words) (IsFile FileKind.Scenario name.now) (F.told files.old).faults (F.told files.new).faults) }
     ensures limits { IfOk result IsScenarioWithin }
 {
     let bytes = read_bytes(alloc, files, FileKind::Scenario, name)?;
@@ -82,10 +82,10 @@ pub(crate) fn read_space<F: Files>(
     files: &mut F,
     name: &str,
 ) -> Result<Space, Refusal>
-    ensures same { F.contents files.new ≡ F.contents files.old }
-    ensures counts { F.faults files.old ≤ F.faults files.new }
-    ensures read { IfOk result (λ s. IfSome (F.contents files.old) (λ contents. space_reading contents name.now ≡ Reads s)) }
-    ensures refused { IfErr result (λ e. IsCause e (F.contents files.old) (λ contents. space_reading contents name.now) (IsFile FileKind.Params name.now) (F.faults files.old) (F.faults files.new)) }
+    ensures same { (F.told files.new).contents ≡ (F.told files.old).contents }
+    ensures counts { (F.told files.old).faults ≤ (F.told files.new).faults }
+    ensures read { IfOk result (λ s. IfSome (F.told files.old).contents (λ contents. space_reading contents name.now ≡ Reads s)) }
+    ensures refused { IfErr result (λ e. IsCause e (F.told files.old).contents (λ contents. space_reading contents name.now) (IsFile FileKind.Params name.now) (F.told files.old).faults (F.told files.new).faults) }
 {
     let bytes = read_bytes(alloc, files, FileKind::Params, name)?;
     match read_params(alloc, bytes.as_slice()) {
@@ -103,11 +103,11 @@ pub(crate) fn read_instance_file<F: Files>(
     files: &mut F,
     name: &str,
 ) -> Result<Vec<Instance>, Refusal>
-    ensures same { F.contents files.new ≡ F.contents files.old }
-    ensures counts { F.faults files.old ≤ F.faults files.new }
-    ensures read { IfOk result (λ v. IfSome (F.contents files.old) (λ contents. instances_reading contents name.now ≡ Reads v.items)) }
+    ensures same { (F.told files.new).contents ≡ (F.told files.old).contents }
+    ensures counts { (F.told files.old).faults ≤ (F.told files.new).faults }
+    ensures read { IfOk result (λ v. IfSome (F.told files.old).contents (λ contents. instances_reading contents name.now ≡ Reads v.items)) }
     ensures count { IfOk result (λ v. (1 ≤ length v.items) × (length v.items ≤ max_instances)) }
-    ensures refused { IfErr result (λ e. IsCause e (F.contents files.old) (λ contents. instances_reading contents name.now) (IsFile FileKind.Instances name.now) (F.faults files.old) (F.faults files.new)) }
+    ensures refused { IfErr result (λ e. IsCause e (F.told files.old).contents (λ contents. instances_reading contents name.now) (IsFile FileKind.Instances name.now) (F.told files.old).faults (F.told files.new).faults) }
 {
     let bytes = read_bytes(alloc, files, FileKind::Instances, name)?;
     match read_instances(alloc, bytes.as_slice()) {

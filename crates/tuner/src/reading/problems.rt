@@ -106,10 +106,10 @@ fn read_named<F: Files>(
     scenario: &Scenario,
 ) -> Result<Problem, Refusal>
     requires { IsScenarioWithin scenario.now }
-    ensures same { F.contents files.new ≡ F.contents files.old }
-    ensures counts { F.faults files.old ≤ F.faults files.new }
-    ensures read { IfOk result (λ p. IfSome (F.contents files.old) (λ contents. problem_in contents scenario.now ≡ Reads p)) }
-    ensures refused { IfErr result (λ e. IsCause e (F.contents files.old) (λ contents. problem_in contents scenario.now) (IsNextIn scenario.now (F.contents files.old)) (F.faults files.old) (F.faults files.new)) }
+    ensures same { (F.told files.new).contents ≡ (F.told files.old).contents }
+    ensures counts { (F.told files.old).faults ≤ (F.told files.new).faults }
+    ensures read { IfOk result (λ p. IfSome (F.told files.old).contents (λ contents. problem_in contents scenario.now ≡ Reads p)) }
+    ensures refused { IfErr result (λ e. IsCause e (F.told files.old).contents (λ contents. problem_in contents scenario.now) (IsNextIn scenario.now (F.told files.old).contents) (F.told files.old).faults (F.told files.new).faults) }
 {
     let space = read_space(alloc, files, scenario.paramfile.as_str())?;
     let instances = read_instance_file(alloc, files, scenario.instance_file.as_str())?;
@@ -124,10 +124,10 @@ pub(crate) fn read_problem<F: Files>(
     words: Words,
 ) -> Result<Problem, Refusal>
     requires { AreWordsWithin words }
-    ensures same { F.contents files.new ≡ F.contents files.old }
-    ensures counts { F.faults files.old ≤ F.faults files.new }
-    ensures read { IfOk result (λ p. IfSome (F.contents files.old) (λ contents. problem_by contents words ≡ Reads p)) }
-    ensures refused { IfErr result (λ e. IsCause e (F.contents files.old) (λ contents. problem_by contents words) (IsNext words (F.contents files.old)) (F.faults files.old) (F.faults files.new)) }
+    ensures same { (F.told files.new).contents ≡ (F.told files.old).contents }
+    ensures counts { (F.told files.old).faults ≤ (F.told files.new).faults }
+    ensures read { IfOk result (λ p. IfSome (F.told files.old).contents (λ contents. problem_by contents words ≡ Reads p)) }
+    ensures refused { IfErr result (λ e. IsCause e (F.told files.old).contents (λ contents. problem_by contents words) (IsNext words (F.told files.old).contents) (F.told files.old).faults (F.told files.new).faults) }
 {
     let Words {
         scenario_file,

@@ -3,4 +3,4 @@ use Rattle.paramils.proofs.seat_tests.are_always_apart.Given as goal
 
 -- no child runs
 abbrev pub invariant-loop : goal.invariant-loop
-invariant-loop g l = (g.S.Spawner.idle l.one ≡ true) × (g.S.Spawner.idle l.other ≡ true)
+invariant-loop g l = ((g.S.Spawner.told l.one).idle ≡ true) × ((g.S.Spawner.told l.other).idle ≡ true)

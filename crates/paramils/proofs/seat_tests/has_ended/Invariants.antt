@@ -3,4 +3,4 @@ use Rattle.paramils.proofs.seat_tests.has_ended.Given as goal
 
 -- the child runs still
 abbrev pub invariant-loop : goal.invariant-loop
-invariant-loop g l = g.S.Spawner.idle l.seat ≡ false
+invariant-loop g l = (g.S.Spawner.told l.seat).idle ≡ false

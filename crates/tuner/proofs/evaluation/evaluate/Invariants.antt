@@ -8,8 +8,8 @@ use Rattle.tuner.proofs.evaluation.evaluate.Given as goal
 -- the places so far cost this much
 abbrev pub invariant-loop-done : goal.invariant-loop-done
 invariant-loop-done g l = record {
-  idle : g.S.Spawner.idle l.spawner ≡ true;
-  counts : g.S.Spawner.faults l.initial.spawner ≤ g.S.Spawner.faults l.spawner;
+  idle : (g.S.Spawner.told l.spawner).idle ≡ true;
+  counts : (g.S.Spawner.told l.initial.spawner).faults ≤ (g.S.Spawner.told l.spawner).faults;
   bound : l.sum.0 ≤ l.done * (1000 * max_cutoff);
   sum : (outcome : Key → Outcome) → g.S.Spawner.truth ≡ Some outcome → sums_of l.problem outcome l.config l.done ≡ Some l.sum.0;
 }

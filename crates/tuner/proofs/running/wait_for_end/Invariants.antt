@@ -5,7 +5,7 @@ use Rattle.tuner.proofs.running.wait_for_end.Given as goal
 abbrev pub invariant-loop : goal.invariant-loop
 invariant-loop g l =
     (goal.iterator-loop g).can_next l.iterator' × (goal.iterator-loop g).is_finite l.iterator' × record {
-      running : g.S.Spawner.idle l.spawner ≡ false;
-      same : g.S.Spawner.current l.spawner ≡ g.S.Spawner.current l.initial.spawner;
-      counts : g.S.Spawner.faults l.initial.spawner ≤ g.S.Spawner.faults l.spawner;
+      running : (g.S.Spawner.told l.spawner).idle ≡ false;
+      same : (g.S.Spawner.told l.spawner).current ≡ (g.S.Spawner.told l.initial.spawner).current;
+      counts : (g.S.Spawner.told l.initial.spawner).faults ≤ (g.S.Spawner.told l.spawner).faults;
     }

@@ -1,5 +1,5 @@
 use Rattle.std.proofs.Common.{◌∙◌, refl, ap}
-use Rattle.tuner.specs.Promises.{unwritten, no_memory}
+use Rattle.tuner.specs.PrintedTexts.{unwritten, no_memory}
 use Rattle.tuner.proofs.SaidTexts.{part_of_lines, widened}
 use Rattle.tuner.proofs.saying.say_all.Goals as goal
 
@@ -8,7 +8,7 @@ returns-in-Err-Fault g c =
     unwritten refl
     (part_of_lines (λ line. line.items) c.args.lines.now c.loop-line.line-index _ _ _ _ _ c.loop-line-test.true
     (c.as_slice.ensures.value ∙ ap (λ line. line.items) c.line-item.is) c.loop-line.invariant.taken c.in-Err-Fault.ensures.part)
-    (widened _ _ _ _ _ _ c.loop-line.invariant.counts c.loop-line.invariant.empties (rw c.in-Err-Fault.field-0-is at c.in-Err-Fault.ensures.cause))
+    (widened _ _ _ c.loop-line.invariant.counts c.loop-line.invariant.empties (rw c.in-Err-Fault.field-0-is at c.in-Err-Fault.ensures.cause))
 
 pub returns-in-Err-Memory : goal.returns-in-Err-Memory
 returns-in-Err-Memory g c =

@@ -1,12 +1,12 @@
-use Rattle.std.proofs.Common.{◌≡◌, ◌≤◌, take}
+use Rattle.std.proofs.Common.{◌≤◌, take}
 use Rattle.std.specs.List.{flat_map}
-use Rattle.outside.specs.Changes.{after_taking}
+use Rattle.outside.specs.WholePieces.{Took}
 use Rattle.tuner.proofs.saying.say_all.Given as goal
 
 -- the lines so far were taken, and nothing else
 abbrev pub invariant-loop-line : goal.invariant-loop-line
 invariant-loop-line g l = record {
-  taken : g.O.Sink.taken l.out ≡ after_taking (g.O.Sink.taken l.initial.out) (flat_map (λ line. line.items) (take l.line-index l.lines));
-  counts : g.O.Sink.faults l.initial.out ≤ g.O.Sink.faults l.out;
-  empties : g.O.Sink.empties l.initial.out ≤ g.O.Sink.empties l.out;
+  taken : Took (g.O.Sink.told l.initial.out) (g.O.Sink.told l.out) (flat_map (λ line. line.items) (take l.line-index l.lines));
+  counts : (g.O.Sink.told l.initial.out).faults ≤ (g.O.Sink.told l.out).faults;
+  empties : (g.O.Sink.told l.initial.out).empties ≤ (g.O.Sink.told l.out).empties;
 }

@@ -1,10 +1,10 @@
 use Rattle.std.proofs.Common.{◌∙◌}
-use Rattle.tuner.specs.Promises.{not_made}
+use Rattle.tuner.specs.PrintedTexts.{not_made}
 use Rattle.tuner.proofs.SaidTexts.{said_as}
 use Rattle.tuner.proofs.saying.say_made.Goals as goal
 
 pub returns-in-Ok : goal.returns-in-Ok
-returns-in-Ok g c = λ text e. said_as _ _ _ _ text (c.as_slice.ensures.value ∙ (rw c.in-Ok.is at e)) c.say.ensures
+returns-in-Ok g c = λ text e. said_as _ _ _ _ _ text (c.as_slice.ensures.value ∙ (rw c.in-Ok.is at e)) c.say.ensures
 
 pub returns-in-Err : goal.returns-in-Err
 returns-in-Err g c = λ text e. not_made c.say_no_memory.ensures

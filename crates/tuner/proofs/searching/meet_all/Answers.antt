@@ -1,6 +1,6 @@
 use Rattle.std.proofs.Common.{Some, arith, ◌∙◌}
 use Rattle.tuner.specs.ProblemRuns.{table_of}
-use Rattle.tuner.proofs.PresentAsks.{present, present_ask, present_sound, present_falls, present_on, present_final, present_abort, traced_none, without_error}
+use Rattle.tuner.proofs.PresentAsks.{present, present_ask, present_searched, present_falls, present_on, present_final, present_abort, traced_none, without_error}
 use Rattle.tuner.proofs.searching.meet_all.Goals as goal
 
 pub loop-reply-init : goal.loop-reply-init
@@ -35,10 +35,11 @@ loop-reply-preserved g c = record {
       (without_error c.answer.result _ _ c.is_err.ensures.value c.if-is_err.false c.answer.ensures.taken);
 }
 
-pub returns-in-End-clause-sound : goal.returns-in-End-clause-sound
-returns-in-End-clause-sound g c =
-    present_sound g.P.Search.shown c.args.problem.now.rules _ c.ask.result.now g.met.P.Search.steady
+pub returns-in-End-clause-searched : goal.returns-in-End-clause-searched
+returns-in-End-clause-searched g c =
+    present_searched g.P.Search.shown c.args.problem.now.rules _ c.ask.result.now g.met.P.Search.steady
     (present g.P.Search.shown _ _ _ _ c.loop-reply.invariant.rules c.ask.ensures.ruled c.ask.ensures.fitting c.ask.ensures.value)
+    c.in-End.ensures.end
 
 pub returns-in-End-clause-ended : goal.returns-in-End-clause-ended
 returns-in-End-clause-ended g c = λ outcome e.

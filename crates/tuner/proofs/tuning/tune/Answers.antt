@@ -1,23 +1,29 @@
-use Rattle.tuner.proofs.PromiseLemmas.{cause_of, headline_of, refuses_misused, refuses_faulty, refuses_unseated, refuses_focused, complete_of}
+use Rattle.tuner.proofs.PromiseLemmas.{cause_of, badly_written, headline_of, ending_of, refuses_misused, refuses_faulty, refuses_unseated, refuses_focused, complete_of}
 use Rattle.tuner.proofs.tuning.tune.Goals as goal
 
 pub returns-clause-headline : goal.returns-clause-headline
-returns-clause-headline g c = headline_of _ _ _ c.conduct.ensures.ending
+returns-clause-headline g c = headline_of _ _ _ _ c.conduct.ensures.ending
 
 pub returns-clause-cause : goal.returns-clause-cause
-returns-clause-cause g c = cause_of _ _ _ c.conduct.ensures.ending
+returns-clause-cause g c = cause_of _ _ _ _ c.conduct.ensures.ending
+
+pub returns-clause-write_fault : goal.returns-clause-write_fault
+returns-clause-write_fault g c = badly_written _ _ _ _ c.conduct.ensures.ending
 
 pub returns-clause-usage : goal.returns-clause-usage
-returns-clause-usage g c = refuses_misused _ _ _ c.conduct.ensures.ending
+returns-clause-usage g c = refuses_misused _ _ (cause_of _ _ _ _ c.conduct.ensures.ending)
 
 pub returns-clause-bad_file : goal.returns-clause-bad_file
-returns-clause-bad_file g c = refuses_faulty _ _ _ c.conduct.ensures.ending
+returns-clause-bad_file g c = refuses_faulty _ _ (cause_of _ _ _ _ c.conduct.ensures.ending)
 
 pub returns-clause-too_few : goal.returns-clause-too_few
-returns-clause-too_few g c = refuses_unseated _ _ _ c.conduct.ensures.ending
+returns-clause-too_few g c = refuses_unseated _ _ (cause_of _ _ _ _ c.conduct.ensures.ending)
 
 pub returns-clause-unbuilt : goal.returns-clause-unbuilt
-returns-clause-unbuilt g c = refuses_focused _ _ _ c.conduct.ensures.ending
+returns-clause-unbuilt g c = refuses_focused _ _ (cause_of _ _ _ _ c.conduct.ensures.ending)
 
 pub returns-clause-complete : goal.returns-clause-complete
-returns-clause-complete g c = complete_of _ _ _ c.conduct.ensures.ending
+returns-clause-complete g c = complete_of _ _ (cause_of _ _ _ _ c.conduct.ensures.ending)
+
+pub returns-clause-ending : goal.returns-clause-ending
+returns-clause-ending g c = ending_of _ _ _ _ c.conduct.ensures.ending

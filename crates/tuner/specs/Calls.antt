@@ -1,0 +1,40 @@
+-- What the top call is given, and what is told of it.
+use Rattle.std.specs.Prelude.{ℕ, ◌≡◌, ◌≤◌, List, Option, Ok, Err, IfSome}
+use Rattle.objective.specs.declared.Outcome.{Outcome}
+use Rattle.outside.specs.declared.runs.Key.{Key}
+use Rattle.outside.specs.ToldStates.{FilesTold, SpawnerTold}
+use Rattle.scenario_files.specs.Words.{words_read}
+use Rattle.scenario_files.specs.declared.call.Words.{Words}
+use Rattle.tuner.specs.Problem.{Problem}
+use Rattle.tuner.specs.Readings.{Reads, problem_of}
+
+-- what a call is given, with what its files and seats tell before and after it
+pub record Call : Type 0 where
+  pub words : List (List ℕ)
+  pub files : FilesTold
+  pub files' : FilesTold
+  pub truth : Option (Key → Outcome)  -- of the seats, where it is told
+  pub seats : List SpawnerTold
+  pub seats' : List SpawnerTold
+
+abbrev pub call_of : List (List ℕ) → FilesTold → FilesTold → Option (Key → Outcome) → List SpawnerTold → List SpawnerTold → Call
+call_of words files files' truth seats seats' =
+    record { words = words; files = files; files' = files'; truth = truth; seats = seats; seats' = seats' }
+
+-- the key word at this place is the first that is wrong; or none is, there are so many words and none names the scenario file
+abbrev pub IsMisused : List (List ℕ) → ℕ → Type 0
+IsMisused words place = words_read words ≡ Err place
+
+-- the words have a reading
+pub record IsCalled (words : List (List ℕ)) : Type 0 where
+  pub given : Words
+  pub reads : words_read words ≡ Ok given
+
+-- the words and the files, where these are told, state this problem
+pub record StatesProblem (words : List (List ℕ)) (files : FilesTold) (problem : Problem) : Type 0 where
+  pub called : IsCalled words
+  pub reads : IfSome files.contents (λ contents. problem_of words contents ≡ Reads problem)
+
+-- so many seats are as many as the problem asks for
+abbrev pub IsSeated : ℕ → Problem → Type 0
+IsSeated seats problem = problem.rules.workers ≤ seats

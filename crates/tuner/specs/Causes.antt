@@ -1,0 +1,85 @@
+-- The cause of each answer of the top call.
+use Rattle.std.specs.Prelude.{ℕ, ◌≡◌, ◌<◌, List, length, slice_get, Option, Some, IfSome, IsSome}
+use Rattle.objective.specs.declared.Outcome.{Outcome}
+use Rattle.outside.specs.declared.runs.Key.{Key}
+use Rattle.outside.specs.Counts.{Rose}
+use Rattle.outside.specs.ToldStates.{FilesTold, SpawnerTold}
+use Rattle.scenario_files.specs.declared.draft.Approach.TheVariants.{Basic, Focused}
+use Rattle.uncapped.specs.Procedure.{Finished, Aborted}
+use Rattle.tuner.specs.AskEnds.{IsFailure}
+use Rattle.tuner.specs.Calls.{Call, call_of, IsMisused, IsCalled, StatesProblem, IsSeated}
+use Rattle.tuner.specs.Problem.{Problem}
+use Rattle.tuner.specs.Readings.{Reads, Bad, problem_of, file_name}
+use Rattle.tuner.specs.SearchEnds.{true_run}
+use Rattle.tuner.specs.declared.status.FileKind.{FileKind}
+use Rattle.tuner.specs.declared.status.What.{What}
+use Rattle.tuner.specs.declared.status.Status.{Status}
+use Rattle.tuner.specs.declared.status.Status.TheVariants as status
+
+-- words and files state this problem of BasicILS, and there are as many seats as it asks for
+pub record IsRun (call : Call) (problem : Problem) : Type 0 where
+  pub stated : StatesProblem call.words call.files problem
+  pub seated : IsSeated (length call.seats) problem
+  pub approach : problem.approach ≡ Basic
+
+-- the cause of Ok: a search was run, and where a truth is told, the uncapped procedure finishes
+pub record IsFinished (call : Call) : Type 0 where
+  pub problem : Problem
+  pub run : IsRun call problem
+  pub finished : IsSome call.truth → (true_run call.truth problem).end ≡ Finished
+
+-- the cause of BadFile: this fault is the first in the files, and its file was read
+pub record IsBadFile (call : Call) (kind : FileKind) (line : ℕ) (what : What) : Type 0 where
+  pub name : List ℕ
+  pub called : IsCalled call.words
+  pub first : IfSome call.files.contents (λ contents. problem_of call.words contents ≡ Bad kind name line what)
+
+-- the cause of ReadFault: the count rose, and the files before this one have a reading
+pub record IsUnread (call : Call) (kind : FileKind) : Type 0 where
+  pub name : List ℕ
+  pub called : IsCalled call.words
+  pub next : IfSome call.files.contents (λ contents. file_name call.words contents kind ≡ Reads name)
+  pub rose : Rose call.files.faults call.files'.faults
+
+-- the cause of TooFewSeats: words and files state a problem that asks for more seats than there are
+pub record IsTooFew (call : Call) (asked given : ℕ) : Type 0 where
+  pub problem : Problem
+  pub stated : StatesProblem call.words call.files problem
+  pub workers : asked ≡ problem.rules.workers
+  pub all : given ≡ length call.seats
+  pub fewer : given < asked
+
+-- the causes of Unbuilt: FocusedILS is asked for, or a child aborts
+pub data IsUnbuilt (call : Call) : Type 0 where
+  focused : (problem : Problem) → StatesProblem call.words call.files problem → IsSeated (length call.seats) problem
+      → problem.approach ≡ Focused → IsUnbuilt call
+  aborted : (problem : Problem) → IsRun call problem
+      → (IsSome call.truth → (true_run call.truth problem).end ≡ Aborted) → IsUnbuilt call
+
+-- the cause of ChildFault: the count of this seat rose, and its failed run is one of the problem's
+pub record IsChildFault (call : Call) (seat : ℕ) : Type 0 where
+  pub problem : Problem
+  pub config : List ℕ
+  pub place : ℕ
+  pub before : SpawnerTold
+  pub after : SpawnerTold
+  pub run : IsRun call problem
+  pub was : slice_get call.seats seat ≡ Some before
+  pub is : slice_get call.seats' seat ≡ Some after
+  pub failure : IsFailure problem before after config place
+
+-- the cause of each answer, but of want of memory; that of WriteFault is the output's
+abbrev pub CauseOf : Call → Status → Type 0
+CauseOf call status.Ok = IsFinished call
+CauseOf call (status.Usage place) = IsMisused call.words place
+CauseOf call (status.BadFile kind line what) = IsBadFile call kind line what
+CauseOf call (status.ReadFault kind) = IsUnread call kind
+CauseOf call status.WriteFault = Unit {0}
+CauseOf call (status.ChildFault seat) = (seat ≡ 0) × IsChildFault call seat
+CauseOf call status.NoMemory = Unit {0}
+CauseOf call (status.TooFewSeats asked given) = IsTooFew call asked given
+CauseOf call status.Unbuilt = IsUnbuilt call
+
+-- the answer has its cause in the words, and in what files and seats tell before and after the call
+abbrev pub HasCause : List (List ℕ) → FilesTold → FilesTold → Option (Key → Outcome) → List SpawnerTold → List SpawnerTold → Status → Type 0
+HasCause words files files' truth seats seats' = CauseOf (call_of words files files' truth seats seats')

@@ -1,0 +1,83 @@
+-- What the top call prints, by how it is to end, and what comes of it.
+use Rattle.std.specs.Prelude.{ℕ, ◌≡◌, List, slice_get, Option, Some, IfSome}
+use Rattle.objective.specs.declared.Outcome.{Outcome}
+use Rattle.outside.specs.declared.runs.Key.{Key}
+use Rattle.outside.specs.ToldStates.{FilesTold, SinkTold, SpawnerTold}
+use Rattle.outside.specs.WholePieces.{Took, TookPartOf, WroteBadly}
+use Rattle.param_space.specs.Configurations.{IsConfig}
+use Rattle.uncapped.specs.Procedure.{Incumbent}
+use Rattle.tuner.specs.Calls.{StatesProblem}
+use Rattle.tuner.specs.Evaluations.{IsPlace}
+use Rattle.tuner.specs.Lines.{all_lines, unbuilt_line, no_memory_line, usage_line, bad_file_line, read_fault_line, seats_line, child_fault_line}
+use Rattle.tuner.specs.Problem.{Problem}
+use Rattle.tuner.specs.ProblemRuns.{run_at}
+use Rattle.tuner.specs.Readings.{Reads, Bad, problem_of, file_name}
+use Rattle.tuner.specs.SearchEnds.{IsTrajectoryOf}
+use Rattle.tuner.specs.declared.status.FileKind.{FileKind}
+use Rattle.tuner.specs.declared.status.What.{What}
+use Rattle.tuner.specs.declared.status.Status.{Status}
+use Rattle.tuner.specs.declared.status.Status.TheVariants as status
+
+-- the entries and the last line of a search that made all comparisons
+pub record IsSearchText (words : List (List ℕ)) (files : FilesTold) (truth : Option (Key → Outcome)) (text : List ℕ) : Type 0 where
+  pub problem : Problem
+  pub stated : StatesProblem words files problem
+  pub entries : List Incumbent
+  pub last : Incumbent
+  pub trajectory : IsTrajectoryOf problem truth entries last
+  pub lines : text ≡ all_lines problem.rules.space entries last
+
+-- the line of the file's first fault
+pub record IsBadFileText (words : List (List ℕ)) (files : FilesTold) (kind : FileKind) (line : ℕ) (what : What) (text : List ℕ) : Type 0 where
+  pub name : List ℕ
+  pub first : IfSome files.contents (λ contents. problem_of words contents ≡ Bad kind name line what)
+  pub same : text ≡ bad_file_line name line what
+
+-- the line of the file that is to be read next
+pub record IsReadFaultText (words : List (List ℕ)) (files : FilesTold) (kind : FileKind) (text : List ℕ) : Type 0 where
+  pub name : List ℕ
+  pub next : IfSome files.contents (λ contents. file_name words contents kind ≡ Reads name)
+  pub same : text ≡ read_fault_line name
+
+-- the line of the place and the settings of a seat's failed run
+pub record IsChildFaultText (words : List (List ℕ)) (files : FilesTold) (seats : List SpawnerTold) (seat : ℕ) (text : List ℕ) : Type 0 where
+  pub problem : Problem
+  pub stated : StatesProblem words files problem
+  pub config : List ℕ
+  pub place : ℕ
+  pub sound : IsConfig problem.rules.space config
+  pub in_range : IsPlace problem.rules.max_runs place
+  pub after : SpawnerTold
+  pub is : slice_get seats seat ≡ Some after
+  pub failed : after.failed_run ≡ Some (run_at problem config place)
+  pub same : text ≡ child_fault_line problem.rules.space place config
+
+-- the whole text of a call that is to end so; the seats are those after the call
+abbrev pub IsTextOf : List (List ℕ) → FilesTold → Option (Key → Outcome) → List SpawnerTold → Status → List ℕ → Type 0
+IsTextOf words files truth seats status.Ok text = IsSearchText words files truth text
+IsTextOf words files truth seats (status.Usage place) text = text ≡ usage_line place
+IsTextOf words files truth seats (status.BadFile kind line what) text = IsBadFileText words files kind line what text
+IsTextOf words files truth seats (status.ReadFault kind) text = IsReadFaultText words files kind text
+IsTextOf words files truth seats status.WriteFault text = ⊥
+IsTextOf words files truth seats (status.ChildFault seat) text = IsChildFaultText words files seats seat text
+IsTextOf words files truth seats status.NoMemory text = text ≡ no_memory_line
+IsTextOf words files truth seats (status.TooFewSeats asked given) text = text ≡ seats_line asked given
+IsTextOf words files truth seats status.Unbuilt text = text ≡ unbuilt_line
+
+-- the text was written whole and nothing else, or a first part of it with the status that says why
+pub data Said (out out' : SinkTold) (end result : Status) (text : List ℕ) : Type 0 where
+  whole : result ≡ end → Took out out' text → Said out out' end result text
+  unwritten : result ≡ status.WriteFault → TookPartOf out out' text → WroteBadly out out' → Said out out' end result text
+  no_memory : result ≡ status.NoMemory → TookPartOf out out' text → Said out out' end result text
+
+-- a call that is to end with a text says it, or that there is no memory
+pub data Reported (out out' : SinkTold) (result end : Status) (text : List ℕ) : Type 0 where
+  made : Said out out' end result text → Reported out out' result end text
+  not_made : Said out out' status.NoMemory result no_memory_line → Reported out out' result end text
+
+-- how the call was to end, what it was to print then, and what came of it
+pub record Ending (words : List (List ℕ)) (files : FilesTold) (truth : Option (Key → Outcome)) (seats : List SpawnerTold) (out out' : SinkTold) (result : Status) : Type 0 where
+  pub end : Status
+  pub text : List ℕ
+  pub wanted : IsTextOf words files truth seats end text
+  pub said : Said out out' end result text
