@@ -1,5 +1,5 @@
 -- Over a table in which each abort counts as unsolved the procedure is followed to its end.
-use Rattle.std.specs.Prelude.{ℕ, ◌<◌, ◌≡◌, Bool, true, false, List, Option, Some, None, IsSome, IfSome, nat_le, map, take, length, slice_get, refl, if◌then◌else◌}
+use Rattle.std.specs.Prelude.{ℕ, zero, suc, ◌<◌, ◌≡◌, Bool, true, false, List, Option, Some, None, IsSome, IfSome, nat_le, map, take, length, slice_get, refl, if◌then◌else◌}
 use Rattle.std.proofs.Common.{sym, ap, ◌∙◌, subst, inl, inr, arith, take_all}
 use Rattle.std.proofs.lemmas.Bool.{cases_lt}
 use Rattle.std.proofs.lemmas.Option.{slice_get_cases, slice_get_past}
@@ -8,7 +8,7 @@ use Rattle.objective.specs.Costs.{Table, cost_of, cost_within}
 use Rattle.objective.specs.declared.Outcome.{Outcome}
 use Rattle.objective.specs.declared.Outcome.TheVariants.{Solved, Unsolved, Crashed, Abort}
 use Rattle.uncapped.specs.Procedure.{Settings, Sums, Question, End, Finished, Aborted}
-use Rattle.uncapped.specs.Totals.{total_cost, quiet_outcome, quiet}
+use Rattle.uncapped.specs.Totals.{plus, total_cost, quiet_outcome, quiet}
 use Rattle.uncapped.specs.Uncapped.{Run}
 use Rattle.uncapped.proofs.KnownCosts.{all_known}
 use Rattle.ils_face.specs.declared.asks.Reply.{Reply}
@@ -31,9 +31,36 @@ pub all_quiet : (limits : Bounds) (T : Table) (θ : Settings) (n : ℕ) → IsSo
 all_quiet limits T = all_known limits (quiet T) (λ θ n. quiet_cost limits (T θ n))
 
 -- a known cost isn't none
-not_none : (o : Option ℕ) → IsSome o → o ≡ None → ⊥
+pub not_none : (o : Option ℕ) → IsSome o → o ≡ None → ⊥
 not_none (Some x) h e = cc
 not_none None h e = cc
+
+quiet_at_abort : (limits : Bounds) (b : Bool) (o : Outcome) → cost_within limits o ≡ None
+    → IsSome (cost_within limits (if b then o else Unsolved))
+    → cost_within limits Unsolved ≡ cost_within limits (if b then o else Unsolved)
+quiet_at_abort limits true o none h = absurd (not_none (cost_within limits o) h none)
+quiet_at_abort limits false o none h = refl
+
+quiet_same : (limits : Bounds) (o : Outcome) → IsSome (cost_of limits o)
+    → cost_of limits (quiet_outcome o) ≡ cost_of limits o
+quiet_same limits (Solved t) h = refl
+quiet_same limits Unsolved h = refl
+quiet_same limits (Crashed t) h = refl
+quiet_same limits (Abort t) h = quiet_at_abort limits (nat_le t.0 limits.cutoff) (Abort t) refl h
+
+plus_parts : (a b : Option ℕ) → IsSome (plus a b) → IsSome a × IsSome b
+plus_parts (Some x) (Some y) h = (refl, refl)
+plus_parts (Some x) None h = absurd (cc)
+plus_parts None b h = absurd (cc)
+
+-- a total cost that is known is the same where each abort counts as unsolved
+pub quiet_total : (limits : Bounds) (T : Table) (θ : Settings) (n : ℕ) → IsSome (total_cost limits T θ n)
+    → total_cost limits (quiet T) θ n ≡ total_cost limits T θ n
+quiet_total limits T θ zero h = refl
+quiet_total limits T θ (suc n) h =
+    let parts = plus_parts (total_cost limits T θ n) (cost_of limits (T θ (suc n))) h in
+    ap (λ a. plus a (cost_of limits (quiet T θ (suc n)))) (quiet_total limits T θ n parts.0)
+    ∙ ap (plus (total_cost limits T θ n)) (quiet_same limits (T θ (suc n)) parts.1)
 
 -- an ask of the run is there, and its cost isn't known
 no_unknown : (sums : Sums) (asks : List Question) (k : ℕ) → ((θ : Settings) (n : ℕ) → IsSome (sums θ n)) → k < length asks → IfSome (slice_get asks k) (λ q. cost_asked sums q ≡ None) → ⊥
@@ -48,10 +75,10 @@ no_unknown sums asks k all h unknown =
     ]
 
 -- where all total costs are known the procedure isn't aborted
-known_end : (shown : List Reply → View) (sums : Sums) (run : Run) → Follows shown sums run → ((θ : Settings) (n : ℕ) → IsSome (sums θ n)) → (e : End) → run.end ≡ e → run.end ≡ Finished
+pub known_end : (shown : List Reply → View) (sums : Sums) (run : Run) → Follows shown sums run → ((θ : Settings) (n : ℕ) → IsSome (sums θ n)) → (e : End) → run.end ≡ e → run.end ≡ Finished
 known_end shown sums run h all Finished e = e
 known_end shown sums run h all Aborted e =
-    let stops : StopsShort sums run = h.aborted e in
+    let stops : StopsShort shown sums run = h.aborted e in
     absurd (no_unknown sums run.asks (answer_count run) all stops.unanswered stops.unknown)
 
 -- a procedure that finished: after k replies ask k, or the end where there is none

@@ -1,5 +1,5 @@
 -- A search that is answered by total costs follows the procedure's run step for step: how it begins, goes on and ends.
-use Rattle.std.specs.Prelude.{ℕ, ◌+◌, ◌≤◌, ◌<◌, ◌≡◌, ◌++◌, true, false, List, [], ◌∷◌, Option, Some, None, IsSome, IfSome, IsSomeAnd, map, take, length, slice_get, refl}
+use Rattle.std.specs.Prelude.{ℕ, ◌+◌, ◌≤◌, ◌<◌, ◌≡◌, ◌++◌, true, false, List, [], ◌∷◌, Option, Some, None, IsSome, IfSome, IsSomeAnd, map, take, length, get_or, slice_get, refl}
 use Rattle.std.proofs.Common.{sym, ap, ◌∙◌, subst, inl, inr, arith}
 use Rattle.std.proofs.lemmas.Bool.{cases_lt}
 use Rattle.std.proofs.lemmas.List.{take_more, map-append, length_push}
@@ -22,7 +22,8 @@ question_of-ask_of : (θ : Settings) (n : ℕ) (bound : Option ℕ) → question
 question_of-ask_of θ n None = refl
 question_of-ask_of θ n (Some bound) = refl
 
-question_of-ask_for : (o : Option Question) → question_of (ask_for o) ≡ o
+-- a question that is shown as an ask is that question
+pub question_of-ask_for : (o : Option Question) → question_of (ask_for o) ≡ o
 question_of-ask_for None = refl
 question_of-ask_for (Some q) = question_of-ask_of q.config q.places q.bound
 
@@ -52,7 +53,7 @@ has_reply shown sums run k q Aborted e h low at known =
     ]
 
 -- where a total cost isn't known the procedure is aborted
-is_aborted : (shown : List Reply → View) (sums : Sums) (run : Run) (k : ℕ) (q : Question) (e : End) → run.end ≡ e → Follows shown sums run
+pub is_aborted : (shown : List Reply → View) (sums : Sums) (run : Run) (k : ℕ) (q : Question) (e : End) → run.end ≡ e → Follows shown sums run
     → k ≤ answer_count run → slice_get run.asks k ≡ Some q → cost_asked sums q ≡ None → run.end ≡ Aborted
 is_aborted shown sums run k q Finished e h low at unknown =
     let all : answer_count run ≡ length run.asks = ap (λ f. reply_count f (length run.asks)) e in
@@ -65,7 +66,7 @@ is_aborted shown sums run k q Finished e h low at unknown =
 is_aborted shown sums run k q Aborted e h low at unknown = e
 
 -- past the last ask the procedure has finished
-is_finished : (shown : List Reply → View) (sums : Sums) (run : Run) (k : ℕ) (e : End) → run.end ≡ e → Follows shown sums run
+pub is_finished : (shown : List Reply → View) (sums : Sums) (run : Run) (k : ℕ) (e : End) → run.end ≡ e → Follows shown sums run
     → k ≤ answer_count run → length run.asks ≤ k → (run.end ≡ Finished) × (k ≡ length run.asks)
 is_finished shown sums run k Finished e h low high =
     let all : answer_count run ≡ length run.asks = ap (λ f. reply_count f (length run.asks)) e in
@@ -73,7 +74,7 @@ is_finished shown sums run k Finished e h low high =
 is_finished shown sums run k Aborted e h low high =
     let stops = h.aborted e in absurd (omega (arith, stops.unanswered))
 
-past_last : {A : Type 0} (xs : List A) (k : ℕ) → slice_get xs k ≡ None → length xs ≤ k
+pub past_last : {A : Type 0} (xs : List A) (k : ℕ) → slice_get xs k ≡ None → length xs ≤ k
 past_last xs k h =
     elim (slice_get_cases xs k).1 as (λ _. length xs ≤ k) [
       | inl inside ↦ absurd (let some = inside.2 in cc)
@@ -84,16 +85,21 @@ past_last xs k h =
 pub traced_first : (sums : Sums) (run : Run) → IsTraced sums run []
 traced_first sums run = record { within = omega arith; same = refl }
 
+-- the replies to one ask more
+pub one_more : (sums : Sums) (run : Run) (k : ℕ) (q : Question) → slice_get run.asks k ≡ Some q
+    → replies_to sums run (k + 1) ≡ replies_to sums run k ++ reply_to sums q ∷ []
+one_more sums run k q at =
+    let last : get_or run.asks k q ≡ q = get_or_from_slice_get run.asks k q q at in
+    let taken = take_more run.asks k q (slice_get_within run.asks k q at) in
+    ap (map (reply_to sums)) (taken ∙ ap (λ p. take k run.asks ++ p ∷ []) last)
+    ∙ map-append (reply_to sums) (take k run.asks) (q ∷ [])
+
 grown : (sums : Sums) (run : Run) (replies : List Reply) (r : Reply) (q : Question) → IsTraced sums run replies → slice_get run.asks (length replies) ≡ Some q
     → r ≡ reply_to sums q → replies ++ r ∷ [] ≡ replies_to sums run (length (replies ++ r ∷ []))
 grown sums run replies r q t at same =
     let k = length replies in
-    let inside = slice_get_within run.asks k q at in
     let whole : replies ++ r ∷ [] ≡ replies_to sums run k ++ reply_to sums q ∷ [] = ap (λ rs. rs ++ r ∷ []) t.same ∙ ap (λ s. replies_to sums run k ++ s ∷ []) same in
-    let taken : replies_to sums run (k + 1) ≡ replies_to sums run k ++ reply_to sums q ∷ [] =
-    ap (map (reply_to sums)) (take_more run.asks k q inside ∙ ap (λ p. take k run.asks ++ p ∷ []) (get_or_from_slice_get run.asks k q q at))
-    ∙ map-append (reply_to sums) (take k run.asks) (q ∷ []) in
-    whole ∙ sym taken ∙ ap (replies_to sums run) (sym (length_push replies r))
+    whole ∙ sym (one_more sums run k q at) ∙ ap (replies_to sums run) (sym (length_push replies r))
 
 more : (shown : List Reply → View) (sums : Sums) (run : Run) (replies : List Reply) (r : Reply) (o : Option Question) → Follows shown sums run
     → IsTraced sums run replies → o ≡ slice_get run.asks (length replies) → IsSomeAnd o (IsReplyBy sums r) → IsTraced sums run (replies ++ r ∷ [])

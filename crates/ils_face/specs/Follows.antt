@@ -22,10 +22,11 @@ pub record ShowsEnd (view : View) (run : Run) : Type 0 where
   pub entries : view.entries ≡ map (λ a. a.entry) run.entries
   pub last : view.last ≡ run.last
 
--- the procedure was aborted at its last ask, whose total cost isn't known
-pub record StopsShort (sums : Sums) (run : Run) : Type 0 where
+-- the procedure was aborted at its last ask, whose total cost isn't known, and its entries are shown before that one
+pub record StopsShort (shown : List Reply → View) (sums : Sums) (run : Run) : Type 0 where
   pub unanswered : answer_count run < length run.asks
   pub unknown : IfSome (slice_get run.asks (answer_count run)) (λ q. cost_asked sums q ≡ None)
+  pub entries : (shown (replies_to sums run (answer_count run))).entries ≡ map (λ a. a.entry) run.entries
 
 -- given the replies of these total costs, a search shows the asks and the entries of the run
 pub record Follows (shown : List Reply → View) (sums : Sums) (run : Run) : Type 0 where
@@ -33,7 +34,7 @@ pub record Follows (shown : List Reply → View) (sums : Sums) (run : Run) : Typ
   pub entries : (k : ℕ) → k ≤ answer_count run → (shown (replies_to sums run k)).entries ≡ entries_before run k
   pub known : (k : ℕ) → k < answer_count run → IfSome (slice_get run.asks k) (λ q. IsSome (cost_asked sums q))
   pub finished : run.end ≡ Finished → ShowsEnd (shown (replies_to sums run (length run.asks))) run
-  pub aborted : run.end ≡ Aborted → StopsShort sums run
+  pub aborted : run.end ≡ Aborted → StopsShort shown sums run
 
 -- the replies of a table, its aborts as unsolved, lead through all asks of the procedure to its end
 pub record GoesThrough (shown : List Reply → View) (sums : Sums) (run : Run) : Type 0 where

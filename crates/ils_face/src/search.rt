@@ -10,6 +10,7 @@ ghost use Rattle.ils_face.specs.Replies.{Fits};
 ghost use Rattle.ils_face.specs.Views.{View, AreFitting};
 ghost use Rattle.ils_face.specs.Steady.{IsSteady};
 ghost use Rattle.ils_face.specs.Follows.{Follows, GoesThrough, sums_under};
+ghost use Rattle.ils_face.specs.Aborts.{MeetsAborts};
 
 use crate::asks::{Ask, Entry, Reply};
 use crate::rules::Rules;
@@ -98,4 +99,9 @@ pub trait Search: Sized + Drop {
     /// Over a table in which each abort counts as unsolved the procedure finishes, and the
     /// search goes through all its asks.
     ghost finishes: { (rules : Rules) (T : Table) → AreRules rules → GoesThrough (shown rules) (sums_under rules (quiet T)) (plain rules (quiet T)) };
+
+    /// Where the table's own costs are known at all those asks, the procedure over the table
+    /// is the same; else it is aborted at the first ask whose cost isn't known, with the same
+    /// asks up to that one and the entries that were added before it.
+    ghost aborts: { (rules : Rules) (T : Table) → AreRules rules → MeetsAborts (sums_under rules T) (plain rules T) (plain rules (quiet T)) };
 }

@@ -9,7 +9,7 @@ use Rattle.ils_face.specs.Replies.{Fits, ask_for}
 use Rattle.ils_face.specs.Rules.{Rules, AreRules}
 use Rattle.ils_face.specs.Setups.{setup_of}
 use Rattle.ils_face.proofs.Setups.{setup_of-numbers}
-use Rattle.ils_face.specs.Views.{View, AreFitting}
+use Rattle.ils_face.specs.Views.{AreFitting}
 use Rattle.ils_frame.specs.declared.pending.Pending.TheVariants.{Opening}
 use Rattle.ils_frame.specs.Comparers.{Phase, Ready, Asking, Decided, is_asking, question_in, decision_in, Parts, Answered, IsSteadyComparer}
 use Rattle.ils_frame.specs.NextComparison.{next}
@@ -18,11 +18,6 @@ use Rattle.ils_frame.specs.AllowedPending.{IsPendingAllowed}
 use Rattle.ils_frame.specs.Laws.AllowedDraws.{draws_allowed}
 use Rattle.ils_frame.specs.Laws.MachineInvariant.{most_draws, live}
 use Rattle.ils_frame.specs.Laws.SteadyLaw.{FittingByRules, FitsAt, fits_at, after_all-none, after_all-more, few-steps, steady-setup, fitting-here}
-
--- one more fitting reply
-pub fitting-more : (shown : List Reply → View) (rs : List Reply) (r : Reply) → AreFitting shown rs → Fits (shown rs).ask r → AreFitting shown (rs ++ r ∷ [])
-fitting-more shown [] r a f = (f, tt)
-fitting-more shown (x ∷ rs) r a f = (a.0, fitting-more (λ rest. shown (x ∷ rest)) rs r a.1 f)
 
 -- where something was decided nothing is asked
 pub decided-asks : (p : Phase) (b : Bool) → decision_in p ≡ Some b → question_in p ≡ None

@@ -47,7 +47,7 @@ impl<C: Comparer> Search for Ils<C> {
     ghost use Rattle.uncapped.specs.Uncapped.{run_after, at_first};
     ghost use Rattle.ils_frame.specs.Machine.{shown_after};
     ghost use Rattle.ils_frame.specs.Laws.SteadyLaw.{laws_steady};
-    ghost use Rattle.ils_frame.specs.Laws.FollowsLaw.{laws_follow, laws_finish};
+    ghost use Rattle.ils_frame.specs.Laws.FollowsLaw.{laws_follow, laws_finish, laws_abort};
 
     ghost rules_of = { λ s. s.rules };
 
@@ -62,6 +62,8 @@ impl<C: Comparer> Search for Ils<C> {
     ghost follows = { λ rules T are. laws_follow C.parts (C.at_open rules) rules are (C.fit rules) (C.steady rules are) (C.stands rules (sums_under rules T)) (C.coming (setup_of rules) (sums_under rules T)) (C.better (setup_of rules) (sums_under rules T)) (C.opening (setup_of rules) (sums_under rules T)) T (C.keeps rules T are) };
 
     ghost finishes = { λ rules T are. laws_finish C.parts (C.at_open rules) rules are (C.fit rules) (C.steady rules are) (C.stands rules (sums_under rules (quiet T))) (C.coming (setup_of rules) (sums_under rules (quiet T))) (C.better (setup_of rules) (sums_under rules (quiet T))) (C.opening (setup_of rules) (sums_under rules (quiet T))) T (C.keeps rules (quiet T) are) };
+
+    ghost aborts = { λ rules T are. laws_abort C.parts (C.at_open rules) rules are (C.fit rules) (C.steady rules are) (C.stands rules) (C.coming (setup_of rules)) (C.better (setup_of rules)) (C.opening (setup_of rules)) T (λ T. C.keeps rules T are) };
 
     fn open(alloc: Global, rules: &Rules) -> Result<Ils<C>, Memory> {
         let kept = rules.copy()?;

@@ -1,16 +1,17 @@
 -- A search over any comparer follows the procedure.
-use Rattle.std.proofs.Common.{ℕ, suc, ◌≡◌, ◌+◌, ◌≤◌, Bool, true, false, [], ◌++◌, map, filter, length, Option, Some, None, nat_le, if◌then◌else◌, refl, sym, ◌∙◌, ap, subst, arith, take_all}
-use Rattle.std.proofs.lemmas.Bool.{leb-true}
+use Rattle.std.proofs.Common.{ℕ, suc, ◌≡◌, ◌+◌, ◌≤◌, Bool, false, [], ◌++◌, map, filter, length, refl, sym, ◌∙◌, ap, subst, arith, take_all}
 use Rattle.std.proofs.lemmas.List.{map-append}
 use Rattle.std.proofs.lemmas.List.Elements.{filter-append}
-use Rattle.uncapped.specs.Procedure.{Settings, Sums, Question, PlainState, End, Finished, Aborted, Procedure, goes_on, give}
+use Rattle.uncapped.specs.Procedure.{Settings, Sums, PlainState, End, Finished, Aborted, Procedure, goes_on, give}
 use Rattle.uncapped.specs.Setup.{Setup}
 use Rattle.uncapped.specs.Searching.{search_after}
 use Rattle.uncapped.specs.Uncapped.{Run, run_after, at_first}
-use Rattle.ils_face.specs.declared.asks.Reply.TheVariants.{Exact, Exceeds}
-use Rattle.ils_face.specs.Replies.{Fits, ask_of, ask_for, reply_up_to, reply_count, entries_before}
+use Rattle.ils_face.specs.Replies.{ask_for, reply_count, entries_before}
 use Rattle.ils_face.specs.Follows.{Follows, GoesThrough, answer_count, sums_under}
+use Rattle.ils_face.specs.Aborts.{MeetsAborts}
 use Rattle.ils_face.proofs.QuietTables.{quiet-through}
+use Rattle.ils_face.proofs.FittingReplies.{reply_fits}
+use Rattle.ils_face.proofs.AbortedRuns.{aborts_met}
 use Rattle.uncapped.specs.Totals.{quiet}
 use Rattle.ils_frame.specs.declared.pending.Pending.TheVariants.{Opening}
 use Rattle.ils_frame.specs.Comparers.{decision_in, Parts, IsSteadyComparer, additions_after, opened_state, Keeps}
@@ -28,18 +29,6 @@ use Rattle.param_space.specs.Space.{defaults}
 use Rattle.ils_face.specs.Setups.{setup_of}
 use Rattle.ils_face.specs.Rules.{Rules, AreRules}
 use Rattle.ils_frame.specs.Laws.AllowedDraws.{draws_allowed}
-
--- a table's reply fits its question
-pub reply_fits : (q : Question) (x : ℕ) → Fits (ask_of q.config q.places q.bound) (reply_up_to x q.bound)
-reply_fits q x = at_either q.bound
-  where
-    at_bound : (b : ℕ) (t : Bool) → nat_le x b ≡ t → Fits (ask_of q.config q.places (Some b)) (if t then Exact (record { 0 = x }) else Exceeds)
-    at_bound b true e = leb-true x b e
-    at_bound b false e = tt
-
-    at_either : (bound : Option ℕ) → Fits (ask_of q.config q.places bound) (reply_up_to x bound)
-    at_either None = tt
-    at_either (Some b) = at_bound b (nat_le x b) refl
 
 -- the number of replies, by how the run ends
 counts : (e : End) (n count : ℕ) → (e ≡ Finished → n ≡ count) → (e ≡ Aborted → n ≡ suc count) → reply_count e n ≡ count
@@ -64,6 +53,7 @@ module _ {S : Type 0} (parts : Parts S) (setup : Setup) (sums : Sums) (first : S
     aborted = λ e. record {
       unanswered = rw number (let h : length p.rest ≡ suc p.count = (p.aborted e).0 in let a : length run.asks ≡ length p.rest = ap length asks in omega (arith, h, a));
       unknown = rw (number, asks) ((p.aborted e).1);
+      entries = rw (number, asks) ((p.aborted e).2) ∙ all;
     };
   }
     where
@@ -118,6 +108,12 @@ module _ {S : Type 0} (parts : Parts S) (fit : S → Type 0) (stands : S → Pla
 -- ---- by the rules of a search
 
 module _ {S : Type 0} (parts : Parts S) (first : S) (rules : Rules) where
+  -- the run of a comparison and an opening over a table
+  abbrev pub run_under : (Sums → Settings → Settings → Procedure Bool) → (Sums → Procedure (Unit {0})) → Table → Run
+  run_under better opening T =
+      let sums : Sums = sums_under rules T in
+      run_after sums (search_after (setup_of rules) (better sums) (opening sums) (at_first (setup_of rules)))
+
   module _ (are : AreRules rules) (fit : S → Type 0) (steady : IsSteadyComparer parts fit rules.max_runs (IsConfig rules.space) (defaults rules.space.params) first) where
     -- given the replies of a table, it shows what the procedure does
     pub laws_follow : (stands : S → PlainState → Type 0) (coming : S → Procedure Bool) (better : Settings → Settings → Procedure Bool) (opening : Procedure (Unit {0})) (T : Table)
@@ -133,3 +129,24 @@ module _ {S : Type 0} (parts : Parts S) (first : S) (rules : Rules) where
     laws_finish stands coming better opening T keeps =
         quiet-through (shown_after parts first rules) rules.limits T (run_after (sums_under rules (quiet T)) (search_after (setup_of rules) better opening (at_first (setup_of rules))))
         (laws_follow stands coming better opening (quiet T) keeps)
+
+    -- a comparer keeps the laws over these total costs
+    abbrev pub IsKept : (Sums → S → PlainState → Type 0) → (Sums → S → Procedure Bool)
+        → (Sums → Settings → Settings → Procedure Bool) → (Sums → Procedure (Unit {0})) → Sums → Type 0
+    IsKept stands coming better opening sums =
+        Keeps parts fit (stands sums) (coming sums) (better sums) (opening sums) (setup_of rules) sums first
+
+    -- over a table it is the same as with each abort as unsolved, up to the first total cost that isn't known
+    pub laws_abort : (stands : Sums → S → PlainState → Type 0) (coming : Sums → S → Procedure Bool)
+        (better : Sums → Settings → Settings → Procedure Bool) (opening : Sums → Procedure (Unit {0})) (T : Table)
+        → ((T : Table) → IsKept stands coming better opening (sums_under rules T))
+        → MeetsAborts (sums_under rules T) (run_under better opening T) (run_under better opening (quiet T))
+    laws_abort stands coming better opening T keeps =
+        aborts_met (shown_after parts first rules) rules T (run_under better opening T) (run_under better opening (quiet T))
+        (followed_by T) (followed_by (quiet T))
+      where
+        followed_by : (T : Table)
+            → Follows (shown_after parts first rules) (sums_under rules T) (run_under better opening T)
+        followed_by T =
+            let sums : Sums = sums_under rules T in
+            laws_follow (stands sums) (coming sums) (better sums) (opening sums) T (keeps T)

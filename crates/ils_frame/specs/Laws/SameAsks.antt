@@ -74,6 +74,8 @@ pub record Plays {S : Type 0} (parts : Parts S) (setup : Setup) (sums : Sums) (f
   pub finished : run.end ≡ Finished → (length rest ≡ count) × (parts.entries (after_all parts setup f (map (reply_to sums) rest)).comparer ≡ parts.entries f.comparer ++ map entry_in late)
       × (parts.last (after_all parts setup f (map (reply_to sums) rest)).comparer ≡ run.last)
   pub aborted : run.end ≡ Aborted → (length rest ≡ suc count) × IfSome (slice_get rest count) (λ q. cost_asked sums q ≡ None)
+      × (parts.entries (after_all parts setup f (map (reply_to sums) (take count rest))).comparer
+      ≡ parts.entries f.comparer ++ map entry_in late)
 
 not_finished : {A : Type 0} → Aborted ≡ Finished → A
 not_finished e = absurd (cc)
@@ -131,6 +133,7 @@ module _ {S : Type 0} (parts : Parts S) (fit : S → Type 0) (stands : S → Pla
   shows_none f q n (suc k) h = absurd (omega (arith, h))
 
   stopped : (f : Machine S) (s : PlainState) (q : Question) → Sound f s → parts.phase f.comparer ≡ Asking q → cost_asked sums q ≡ None → PlaysFrom f s
+  unfolding after_all
   stopped f s q k e unknown = rw (aborts parts fit stands coming better opening setup sums first keeps allowed draws few_steps steady fitting f s q k e unknown) (record {
     rest = q ∷ [];
     late = [];
@@ -142,7 +145,7 @@ module _ {S : Type 0} (parts : Parts S) (fit : S → Type 0) (stands : S → Pla
     shown_entries = shows_none f q (length s.asks);
     known = λ k h. absurd (omega (arith, h));
     finished = λ o. not_finished o;
-    aborted = λ o. (refl, unknown);
+    aborted = λ o. (refl, unknown, sym (append-nil (parts.entries f.comparer)));
   })
 
   module _ (f : Machine S) (s : PlainState) (q : Question) (x : ℕ) (e : parts.phase f.comparer ≡ Asking q) (known : cost_asked sums q ≡ Some x) where
@@ -178,7 +181,12 @@ module _ {S : Type 0} (parts : Parts S) (fit : S → Type 0) (stands : S → Pla
         ap (λ m. parts.entries m.comparer) (on (map (reply_to sums) p.rest)) ∙ (p.finished o).1 ∙ joined (map entry_in p.late),
         ap (λ m. parts.last m.comparer) (on (map (reply_to sums) p.rest)) ∙ (p.finished o).2,
       );
-      aborted = λ o. (ap suc (p.aborted o).0, (p.aborted o).1);
+      aborted = λ o. (
+        ap suc (p.aborted o).0,
+        (p.aborted o).1,
+        ap (λ m. parts.entries m.comparer) (on (map (reply_to sums) (take p.count p.rest)))
+            ∙ (p.aborted o).2 ∙ joined (map entry_in p.late),
+      );
     })
       where
         new : List Incumbent

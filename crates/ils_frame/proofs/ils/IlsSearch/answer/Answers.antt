@@ -7,7 +7,8 @@ use Rattle.ils_face.specs.Views.{AreFitting}
 use Rattle.ils_frame.specs.Comparers.{question_in}
 use Rattle.ils_frame.specs.NextComparison.{next}
 use Rattle.ils_frame.specs.Machine.{machine_of, begin, shown_after}
-use Rattle.ils_frame.proofs.OneMoreReply.{can-answer, compared-kept, one-more, asks-on, begins-next, fitting-more}
+use Rattle.ils_face.proofs.FittingReplies.{fitting-more}
+use Rattle.ils_frame.proofs.OneMoreReply.{can-answer, compared-kept, one-more, asks-on, begins-next}
 use Rattle.ils_frame.proofs.ils.IlsSearch.answer.Goals.{in-None+in_ok-answer-in-None, in-Some+in_ok-upcoming-in-Some+in_ok-answer-in-Some}
 use Rattle.ils_frame.proofs.ils.IlsSearch.answer.Goals as goal
 
