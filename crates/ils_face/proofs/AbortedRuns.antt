@@ -16,7 +16,8 @@ use Rattle.ils_face.specs.Follows.{Follows, StopsShort, answer_count, sums_under
 use Rattle.ils_face.specs.Traces.{question_of, IsReplyBy, IsUnknown}
 use Rattle.ils_face.specs.Aborts
 use Rattle.ils_face.specs.Aborts.{entries_of, AreKnown, IsFirstUnknown, SameRun, IsCutAt, MeetsAborts}
-use Rattle.ils_face.proofs.Traces.{IsTraced, question_of-ask_for, traced_first, traced_on, one_more}
+use Rattle.ils_face.specs.Traces.{IsTraced}
+use Rattle.ils_face.proofs.Traces.{question_of-ask_for, traced_first, traced_on, one_more}
 use Rattle.ils_face.proofs.Traces.{is_aborted, is_finished, past_last}
 use Rattle.ils_face.proofs.QuietTables.{all_quiet, known_end, quiet_total, not_none}
 

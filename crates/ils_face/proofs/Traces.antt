@@ -11,12 +11,7 @@ use Rattle.ils_face.specs.declared.asks.Reply.{Reply}
 use Rattle.ils_face.specs.Replies.{ask_of, ask_for, cost_asked, reply_to, replies_to, reply_count}
 use Rattle.ils_face.specs.Views.{View}
 use Rattle.ils_face.specs.Follows.{Follows, ShowsEnd, answer_count}
-use Rattle.ils_face.specs.Traces.{question_of, IsReplyBy, IsUnknown, IsFinal}
-
--- the replies so far are those of these total costs to the first asks of the run
-pub record IsTraced (sums : Sums) (run : Run) (replies : List Reply) : Type 0 where
-  pub within : length replies ≤ answer_count run
-  pub same : replies ≡ replies_to sums run (length replies)
+use Rattle.ils_face.specs.Traces.{question_of, IsReplyBy, IsUnknown, IsTraced, IsFinal, IsStopped}
 
 question_of-ask_of : (θ : Settings) (n : ℕ) (bound : Option ℕ) → question_of (ask_of θ n bound) ≡ Some (record { config = θ; places = n; bound = bound })
 question_of-ask_of θ n None = refl
@@ -133,3 +128,28 @@ stops shown sums run k (Some q) h low at by = is_aborted shown sums run k q run.
 pub traced_abort : (shown : List Reply → View) (sums : Sums) (run : Run) (replies : List Reply) → Follows shown sums run → IsTraced sums run replies
     → IsSomeAnd (question_of (shown replies).ask) (IsUnknown sums) → run.end ≡ Aborted
 traced_abort shown sums run replies h t by = stops shown sums run (length replies) (question_of (shown replies).ask) h t.within (asked_next shown sums run replies h t) by
+
+-- where the total cost that is asked for isn't known, no ask is left that has a reply
+none_left : (shown : List Reply → View) (sums : Sums) (run : Run) (k : ℕ) (o : Option Question) → Follows shown sums run
+    → k ≤ answer_count run → o ≡ slice_get run.asks k → IsSomeAnd o (IsUnknown sums) → k ≡ answer_count run
+none_left shown sums run k None h low at by = absurd by
+none_left shown sums run k (Some q) h low at by =
+    elim (cases_lt k (answer_count run)) as (λ _. k ≡ answer_count run) [
+      | inl below ↦
+          (let P : Option Question → Type 0 = λ o. IfSome o (λ p. IsSome (cost_asked sums p)) in
+          let known : IsSome (cost_asked sums q) = subst P (sym at) (h.known k below) in
+          let Q : Option ℕ → Type 0 = λ o. IsSome o in
+          let no : false ≡ true = subst Q by.unknown known in
+          absurd (cc))
+      | inr reached ↦ omega (arith, low, reached)
+    ]
+
+-- there the procedure was aborted, and all its entries are shown
+pub traced_stopped : (shown : List Reply → View) (sums : Sums) (run : Run) (replies : List Reply) → Follows shown sums run → IsTraced sums run replies
+    → IsSomeAnd (question_of (shown replies).ask) (IsUnknown sums) → IsStopped (shown replies) run
+traced_stopped shown sums run replies h t by =
+    let ended : run.end ≡ Aborted = traced_abort shown sums run replies h t by in
+    let count : length replies ≡ answer_count run =
+    none_left shown sums run (length replies) (question_of (shown replies).ask) h t.within (asked_next shown sums run replies h t) by in
+    let whole : replies ≡ replies_to sums run (answer_count run) = t.same ∙ ap (replies_to sums run) count in
+    record { aborted = ended; entries = ap (λ rs. (shown rs).entries) whole ∙ (h.aborted ended).entries }

@@ -36,7 +36,8 @@ pub trait Search: Sized + Drop {
     /// A search with no reply yet.
     fn open(alloc: Global, rules: &Rules) -> Result<Self, Memory>
         ensures rules { IfOk result (λ s. rules_of s ≡ rules.now) }
-        ensures none { IfOk result (λ s. replies_of s ≡ []) };
+        ensures none { IfOk result (λ s. replies_of s ≡ []) }
+        ensures ruled { IfOk result (λ s. AreRules (rules_of s)) };
 
     /// The present ask. Takes no memory, as all the calls that only read.
     fn ask(&self) -> &Ask

@@ -3,7 +3,7 @@ use Rattle.std.proofs.Common.{◌≡◌, false, Option, Some, None}
 use Rattle.std.specs.Option.{IfSome}
 use Rattle.objective.specs.declared.Outcome.{Outcome}
 use Rattle.outside.specs.Seats.{Tells, Reads, is_idle}
-use Rattle.outside.specs.declared.runs.Key.{Key}
+use Rattle.wrapper_lines.specs.declared.runs.Key.{Key}
 use Rattle.outside.specs.declared.table_seat.Child.{Child}
 use Rattle.outside.specs.declared.table_seat.Place.{Place}
 use Rattle.outside.specs.declared.table_seat.Place.TheVariants.{Idle, Runs, Ended}

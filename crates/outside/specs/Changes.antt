@@ -5,7 +5,7 @@ use Rattle.outside.specs.declared.faults.Fault.TheVariants.{Failed, Memory}
 use Rattle.outside.specs.declared.faults.Fail.{Fail}
 use Rattle.outside.specs.declared.faults.Poll.{Poll}
 use Rattle.outside.specs.declared.faults.Poll.TheVariants.{Pending, Ended}
-use Rattle.outside.specs.declared.runs.Run.{Run}
+use Rattle.wrapper_lines.specs.declared.runs.Run.{Run}
 
 -- the call failed, and not for want of memory
 abbrev pub has_failed : {A : Type 0} → Result A Fault → Bool

@@ -3,12 +3,12 @@ use Rattle.std.specs.Prelude.{◌≡◌, Bool, true, false, [], Option, Some, No
 use Rattle.objective.specs.Costs.{seen}
 use Rattle.objective.specs.declared.Outcome.{Outcome}
 use Rattle.outside.specs.Courses.{after_start}
-use Rattle.outside.specs.Results.{answer_of}
+use Rattle.wrapper_lines.specs.ResultLines.{answer_of}
 use Rattle.outside.specs.ToldStates.{SpawnerTold}
 use Rattle.outside.specs.declared.course.Course.{Course}
 use Rattle.outside.specs.declared.faults.Fault.{Fault}
 use Rattle.outside.specs.declared.faults.Fault.TheVariants.{Failed, Memory}
-use Rattle.outside.specs.declared.runs.Key.{Key}
+use Rattle.wrapper_lines.specs.declared.runs.Key.{Key}
 use Rattle.outside.specs.declared.table_seat.Child.{Child}
 use Rattle.outside.specs.declared.table_seat.Place.{Place}
 use Rattle.outside.specs.declared.table_seat.Place.TheVariants.{Idle, Runs, Ended}

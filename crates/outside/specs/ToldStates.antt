@@ -1,6 +1,6 @@
 -- What files, sinks and spawners tell.
 use Rattle.std.specs.Prelude.{ℕ, Bool, List, Option}
-use Rattle.outside.specs.declared.runs.Run.{Run}
+use Rattle.wrapper_lines.specs.declared.runs.Run.{Run}
 
 pub record FilesTold : Type 0 where
   pub contents : Option (List ℕ → Option (List ℕ))  -- by name, where they are told

@@ -2,8 +2,8 @@
 ghost use Rattle.std.specs.Prelude.{◌≡◌, None, Some};
 ghost use Rattle.outside.specs.Changes.{failed_after};
 
-use crate::runs::Run;
 use std::marker::Model;
+use wrapper_lines::Run;
 
 /// The run that was started last, and that of the last start or look that failed.
 #[derive(Drop)]

@@ -4,14 +4,14 @@ ghost use Rattle.objective.specs.Costs.{seen};
 ghost use Rattle.objective.specs.declared.Outcome.{Outcome};
 ghost use Rattle.outside.specs.Counts.{count_after};
 ghost use Rattle.outside.specs.Changes.{has_failed, has_ended, has_look_failed, started_after, failed_after};
-ghost use Rattle.outside.specs.Results.{answer_of};
-ghost use Rattle.outside.specs.Runs.{AreWordsOf};
-ghost use Rattle.outside.specs.declared.runs.Key.{Key};
+ghost use Rattle.wrapper_lines.specs.ResultLines.{answer_of};
+ghost use Rattle.wrapper_lines.specs.Runs.{AreWordsOf};
+ghost use Rattle.wrapper_lines.specs.declared.runs.Key.{Key};
 ghost use Rattle.outside.specs.ToldStates.{SpawnerTold};
 
 use crate::faults::{Fail, Fault, Poll};
-use crate::runs::Run;
 use plain_text::Text;
+use wrapper_lines::Run;
 
 /// Something that starts one child at a time. Each seat has its own.
 pub trait Spawner: Drop {

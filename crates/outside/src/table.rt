@@ -1,10 +1,10 @@
 //! What each key's run does.
 ghost use Rattle.std.specs.Prelude.{◌≡◌};
 ghost use Rattle.objective.specs.declared.Outcome.{Outcome};
-ghost use Rattle.outside.specs.declared.runs.Key.{Key};
+ghost use Rattle.wrapper_lines.specs.declared.runs.Key.{Key};
 
-use crate::runs::Key;
 use objective::Outcome;
+use wrapper_lines::Key;
 
 /// Something that has an outcome for each key.
 pub trait Table {

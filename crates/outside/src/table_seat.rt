@@ -1,19 +1,20 @@
 //! A seat in memory whose runs do what a table says.
 ghost use Rattle.std.specs.Prelude.{◌≡◌, Some, IfOk};
 ghost use Rattle.objective.specs.Costs;
-ghost use Rattle.outside.specs.Results.{answer_of, result_line, answer_line};
+ghost use Rattle.wrapper_lines.specs.ResultLines.{answer_of};
+ghost use Rattle.outside.specs.AnswerLines.{result_line, answer_line};
 ghost use Rattle.outside.specs.Courses.{first_course};
 ghost use Rattle.outside.specs.Seats.{Reads, told_first};
 
 use crate::course::{Course, Script};
 use crate::faults::{Fail, Fault, Poll};
-use crate::runs::{Key, Run, copy_texts};
 use crate::spawner::Spawner;
 use crate::table::Table;
 use objective::{Answer, Memory, Micros, seen};
 use plain_text::{Items, Text, seconds_text};
 use std::alloc::Global;
 use std::marker::{Model, PhantomData};
+use wrapper_lines::{Key, Run, copy_texts};
 
 /// Where the child of a seat stands.
 #[derive(Clone, Copy)]
@@ -163,7 +164,7 @@ impl<T: Table> Spawner for TableSeat<T> {
     ghost use Rattle.std.specs.Prelude.{◌≡◌, ◌≤◌, IsTrue, not, false, Some, OnOk, is_ok, ◌||◌};
     ghost use Rattle.outside.specs.Changes.{has_failed, has_ended, has_look_failed, started_after, failed_after, FailsWhere};
     ghost use Rattle.outside.specs.Counts.{count_after};
-    ghost use Rattle.outside.specs.Runs.{AreWordsOf};
+    ghost use Rattle.wrapper_lines.specs.Runs.{AreWordsOf};
     ghost use Rattle.outside.specs.Courses.{after_look, is_bad_start, is_bad_look, is_ended};
     ghost use Rattle.outside.specs.Seats.{course_after};
 

@@ -3,7 +3,7 @@ ghost use Rattle.std.specs.Prelude.{◌≡◌, None, is_none, IfOk};
 
 use crate::faults::fault_of;
 use objective::Memory;
-use outside::{Fail, Fault, LastRuns, Poll, Run, Spawner};
+use outside::{Fail, Fault, LastRuns, Poll, Spawner};
 use plain_text::Text;
 use std::alloc::Global;
 use std::fs::File;
@@ -13,6 +13,7 @@ use std::process::{Child, Command, OpenProcess, Processes, Stdio};
 use std::rt::{Clock, Files};
 use std::time::Duration;
 use std::{fs, io, thread};
+use wrapper_lines::Run;
 
 /// How many bytes of a child's output are kept: its last ones.
 const ROOM: usize = 65_536;

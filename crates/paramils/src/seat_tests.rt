@@ -1,11 +1,13 @@
 //! Seats over real children.
 ghost use Rattle.std.specs.Prelude.{◌≡◌, true, false, IsTrue, not, is_ok};
+ghost use Rattle.std.specs.List.{list_all};
+ghost use Rattle.plain_text.specs.Words.{is_blank};
 
 use crate::process_seat::ProcessSeat;
 use crate::real_files::RealFiles;
 use crate::tests::has_bytes;
 use objective::{Memory, Micros};
-use outside::{Fault, Files, Key, Poll, Run, Spawner, read_program, words_of};
+use outside::{Fault, Files, Poll, Spawner};
 use plain_text::{Items, Text};
 use std::alloc::Global;
 use std::fs::Permissions;
@@ -15,6 +17,7 @@ use std::rt::Clock;
 use std::test::Fail;
 use std::time::Duration;
 use std::{fs, io, thread};
+use wrapper_lines::{Key, Run, read_program, words_of};
 
 /// The number of a process that has seats.
 const ONE: u32 = 1;
@@ -36,6 +39,13 @@ fn example_run(alloc: Global) -> Result<Run, Memory> {
     })
 }
 
+/// Whether a text has blanks alone.
+fn is_all_blank(text: &str) -> bool
+    ensures { result ≡ list_all is_blank text.now }
+{
+    text.as_bytes().iter().all(|b| plain_text::is_blank(*b))
+}
+
 /// Starts the example run of a program in a folder.
 fn starts_in<S: Spawner>(alloc: Global, seat: &mut S, algo: &str, dir: &str) -> Result<(), Fault>
     requires { IsTrue (S.told seat.old).idle }
@@ -44,6 +54,9 @@ fn starts_in<S: Spawner>(alloc: Global, seat: &mut S, algo: &str, dir: &str) -> 
     let Ok(run) = example_run(alloc) else {
         return Err(Fault::Memory);
     };
+    if is_all_blank(algo) {
+        return Err(Fault::Failed);
+    }
     let Ok(program) = read_program(alloc, algo, dir, 9) else {
         return Err(Fault::Memory);
     };

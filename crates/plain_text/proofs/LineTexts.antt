@@ -38,10 +38,14 @@ among_ended (t ∷ []) h = among_fitting t [] [] (All-head (λ x. fits_line x �
 among_ended (t ∷ next ∷ texts) h =
     among_fitting t next (texts ++ [] ∷ []) (All-head (λ x. fits_line x ≡ true) t (next ∷ texts) h) ∙ ap (λ ts. t ∷ ts) (among_ended (next ∷ texts) (All-tail (λ x. fits_line x ≡ true) t (next ∷ texts) h))
 
--- texts that are written on lines are read back, numbered from 1
+-- texts that are written on lines are read back
+pub lines-ended : (texts : List (List ℕ)) → All (λ t. fits_line t ≡ true) texts → lines (flat_map (λ t. t ++ 10 ∷ []) texts) ≡ texts
+lines-ended texts h = ap lines_among (split_ended texts h) ∙ among_ended texts h
+
+-- the same, numbered from 1
 pub numbered_lines-ended : (texts : List (List ℕ)) → All (λ t. fits_line t ≡ true) texts → numbered_lines (flat_map (λ t. t ++ 10 ∷ []) texts) ≡ numbered_from 1 texts
 unfolding numbered_lines
-numbered_lines-ended texts h = ap (λ parts. numbered_from 1 (lines_among parts)) (split_ended texts h) ∙ ap (numbered_from 1) (among_ended texts h)
+numbered_lines-ended texts h = ap (numbered_from 1) (lines-ended texts h)
 
 -- a text with no line feed and no carriage return may stand on a line
 pub fits_line-plain : (text : List ℕ) → list_all (λ b. not (is_break b) && not (b == 13)) text ≡ true → fits_line text ≡ true

@@ -4,8 +4,8 @@ ghost use Rattle.std.specs.List.{position_or_len};
 ghost use Rattle.plain_text.specs.LinePlaces.{IsFirstLine};
 ghost use Rattle.plain_text.specs.Lines;
 
-/// The first line, and what stands after its end.
-pub(crate) fn first_line(text: &[u8]) -> (&[u8], &[u8])
+/// The first line, and what stands after its end. Takes no memory.
+pub fn first_line(text: &[u8]) -> (&[u8], &[u8])
     requires { 0 < length text.now }
     ensures first { Lines.lines text.now ≡ result.0.now ∷ Lines.lines result.1.now }
     ensures place { IsFirstLine text.now result.0.now result.1.now }

@@ -17,6 +17,7 @@ mod tokenizer;
 mod trimming;
 mod words;
 
+pub use breaks::first_line;
 pub use comments::uncommented;
 pub use cuts::{after_prefix, parted};
 pub use decimals::{all_digits, push_seconds, read_count, seconds_text};
@@ -29,5 +30,7 @@ pub use text::Text;
 pub use texts::{has_text, place_of, texts_differ};
 pub use times::{TimeFault, read_micros};
 pub use tokenizer::{Token, token_texts, tokens};
-pub use trimming::{after_word, end_trimmed, first_word, front_trimmed, trimmed};
+pub use trimming::{
+    after_word, end_trimmed, first_word, front_trimmed, front_trimmed_bytes, trimmed, trimmed_bytes,
+};
 pub use words::{is_blank, is_word};

@@ -68,6 +68,21 @@ pub fn trimmed(text: &str) -> &str
     end_trimmed(front_trimmed(text))
 }
 
+/// Bytes without the blanks at their beginning.
+pub fn front_trimmed_bytes(bytes: &[u8]) -> &[u8]
+    ensures { result.now ≡ Trimming.front_trimmed bytes.now }
+{
+    &bytes[blanks_before(bytes)..]
+}
+
+/// Bytes without the blanks around them.
+pub fn trimmed_bytes(bytes: &[u8]) -> &[u8]
+    ensures { result.now ≡ Trimming.trimmed bytes.now }
+{
+    let bytes = front_trimmed_bytes(bytes);
+    &bytes[..size_without_end(bytes)]
+}
+
 /// What stands before the first blank.
 pub fn first_word(text: &str) -> &str
     ensures { result.now ≡ Trimming.first_word text.now }

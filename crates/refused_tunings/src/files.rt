@@ -186,8 +186,8 @@ fn is_refused_at<R: Wait>(
     printed: &str,
 ) -> Result<bool, Memory> {
     let ran = ran(rt, alloc, WORDS, &[("p", params.as_bytes())], &NONE)?;
-    let right = match ran.status {
-        Status::BadFile { kind, line, .. } => kind == FileKind::Params && line == at,
+    let right = match &ran.status {
+        Status::BadFile { kind, line, .. } => *kind == FileKind::Params && *line == at,
         _ => false,
     };
     Ok(right && is_refused(&ran, 3, printed))

@@ -1,18 +1,19 @@
 //! The seat, the files and the output in memory, and the faults that they are told to have.
 ghost use Rattle.std.specs.Prelude.{◌≡◌, IsTrue, false, codes};
-ghost use Rattle.outside.specs.Runs.{AreWordsOf};
+ghost use Rattle.wrapper_lines.specs.Runs.{AreWordsOf};
 
 use crate::checks::check;
 use objective::{Answer, Memory, Micros, Outcome};
 use outside::{
-    Fault, Files, Key, MemoryFiles, MemorySink, Poll, Program, Run, Script, Setting, Sink, Spawner,
-    Table, TableSeat, Unwritten, answer_of, read_program, words_of, write_whole,
+    Fault, Files, MemoryFiles, MemorySink, Poll, Script, Sink, Spawner, Table, TableSeat,
+    Unwritten, write_whole,
 };
 use plain_text::{Items, Text};
 use std::alloc::Global;
 use std::process::Abort;
 use std::test::Fail;
 use test_support::numbers;
+use wrapper_lines::{Key, Program, Run, Setting, answer_of, read_program, words_of};
 
 /// Each run is solved after three seconds.
 #[derive(Drop)]

@@ -2,7 +2,7 @@
 use Rattle.std.proofs.Common.{ℕ, zero, suc, ◌≡◌, ◌<◌, List, [], ◌∷◌, Option, Some, None, Ok, length, get_or, set, refl, sym, ap, ◌∙◌, arith}
 use Rattle.std.specs.Prelude.{IfSome, slice_get}
 use Rattle.objective.specs.declared.Outcome.{Outcome}
-use Rattle.outside.specs.declared.runs.Key.{Key}
+use Rattle.wrapper_lines.specs.declared.runs.Key.{Key}
 use Rattle.outside.specs.ToldStates.{SinkTold, SpawnerTold}
 use Rattle.plain_text.specs.Faults.{IsFound}
 use Rattle.scenario_files.specs.Faults.{place_of}
@@ -12,7 +12,7 @@ use Rattle.scenario_files.specs.declared.draft.Approach.TheVariants.{Basic, Focu
 use Rattle.scenario_files.specs.declared.faults.WordFault.{WordFault}
 use Rattle.scenario_files.specs.declared.faults.WordFault.TheVariants as word_fault
 use Rattle.tuner.specs.Calls.{Call, StatesProblem, IsSeated}
-use Rattle.tuner.specs.Causes.{IsBadFile, IsUnread, focused}
+use Rattle.tuner.specs.Causes.{IsBadFile, IsUnread}
 use Rattle.tuner.specs.Lines.{seats_line, unbuilt_line}
 use Rattle.tuner.specs.PrintedTexts.{Said, Reported}
 use Rattle.tuner.specs.Problem.{Problem}
@@ -71,7 +71,7 @@ ending_unseated call out out' result problem asked seats stated workers all fewe
 pub ending_focused : (call : Call) (out out' : SinkTold) (result : Status) (problem : Problem) → StatesProblem call.words call.files problem
     → IsSeated (length call.seats) problem → problem.approach ≡ Focused → Said out out' status.Unbuilt result unbuilt_line → Conducted call out out' result
 ending_focused call out out' result problem stated seated is said =
-    record { end = status.Unbuilt; text = unbuilt_line; cause = focused problem stated seated is; wanted = refl; said = said }
+    record { end = status.Unbuilt; text = unbuilt_line; cause = record { problem = problem; stated = stated; seated = seated; focused = is }; wanted = refl; said = said }
 
 first_of : (seats : List SpawnerTold) (d : SpawnerTold) → 0 < length seats → slice_get seats 0 ≡ Some (get_or seats 0 d)
 first_of [] d some = absurd (omega arith)

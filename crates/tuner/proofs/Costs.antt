@@ -9,8 +9,8 @@ use Rattle.objective.specs.declared.Outcome.{Outcome}
 use Rattle.objective.specs.declared.Outcome.TheVariants as outcome
 use Rattle.objective.specs.declared.Answer.{Answer}
 use Rattle.objective.specs.declared.Answer.TheVariants as answer
-use Rattle.outside.specs.declared.runs.Key.{Key}
-use Rattle.outside.specs.declared.runs.Run.{Run}
+use Rattle.wrapper_lines.specs.declared.runs.Key.{Key}
+use Rattle.wrapper_lines.specs.declared.runs.Run.{Run}
 use Rattle.tuner.specs.Problem.{Problem}
 use Rattle.tuner.specs.ProblemRuns.{run_at, key_at}
 use Rattle.uncapped.specs.Totals.{total_cost, plus}

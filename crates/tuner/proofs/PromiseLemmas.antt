@@ -1,11 +1,12 @@
 -- The promises of the top call follow from how it ended.
-use Rattle.std.proofs.Common.{ℕ, ◌≡◌, ◌<◌, ◌⊎◌, List, map, length, Option, Some, refl, sym, ap, subst, ◌∙◌, inl, inr, arith}
+use Rattle.std.proofs.Common.{ℕ, ◌≡◌, ◌<◌, ◌⊎◌, true, false, List, map, length, Option, Some, refl, sym, ap, subst, ◌∙◌, inl, inr, arith, take_all}
 use Rattle.std.specs.Prelude.{IfSome, IsSome, IsTrue}
 use Rattle.objective.specs.declared.Outcome.{Outcome}
-use Rattle.outside.specs.declared.runs.Key.{Key}
+use Rattle.wrapper_lines.specs.declared.runs.Key.{Key}
 use Rattle.outside.specs.Counts.{Rose}
 use Rattle.outside.specs.ToldStates.{FilesTold, SinkTold, SpawnerTold}
-use Rattle.outside.specs.WholePieces.{Took, WroteBadly}
+use Rattle.outside.specs.Changes.{after_taking}
+use Rattle.outside.specs.WholePieces.{Took, TookPartOf, WroteBadly}
 use Rattle.param_space.specs.Space.{Lists}
 use Rattle.uncapped.specs.Procedure.{Incumbent, Aborted}
 use Rattle.uncapped.specs.Totals.{NeverAborts}
@@ -13,14 +14,16 @@ use Rattle.uncapped.specs.Uncapped.{Run}
 use Rattle.uncapped.proofs.KnownCosts.{finishes}
 use Rattle.scenario_files.specs.declared.draft.Approach.TheVariants.{Basic, Focused}
 use Rattle.tuner.specs.Calls.{Call, IsMisused, IsCalled, StatesProblem, IsSeated}
-use Rattle.tuner.specs.Causes.{CauseOf, IsBadFile, IsTooFew, IsUnbuilt, focused, aborted}
-use Rattle.tuner.specs.Lines.{all_lines, output_of}
-use Rattle.tuner.specs.PrintedTexts.{IsSearchText, IsTextOf, Said, whole, unwritten, no_memory, Ending}
+use Rattle.tuner.specs.Causes.{CauseOf, IsBadFile, IsTooFew}
+use Rattle.tuner.specs.Lines.{all_lines, end_line, output_of, usage_line, bad_file_line, read_fault_line, seats_line, unbuilt_line, no_memory_line, aborted_line, child_fault_line}
+use Rattle.tuner.specs.PrintedTexts.{IsSearchText, IsAbortedText, IsNoMemoryText, alone, after_entries, IsTextOf, Said, whole, unwritten, no_memory, Ending}
 use Rattle.tuner.specs.Problem.{Problem}
 use Rattle.tuner.specs.ProblemRuns.{table_of, procedure_of, problem_setup}
-use Rattle.tuner.specs.Promises.{Conducted, IsPrinted, is_unsaid, yields, RefusesFaulty, RefusesUnseated, RefusesFocused, NoSeatFails, IsComplete}
+use Rattle.tuner.specs.Promises.{Conducted, IsPrinted, IsUnabortedOutput, IsAbortedOutput, AbortSentence, PrintsFirst, none, some, begins_with_letter, is_unsaid, yields, RefusesFaulty, RefusesUnseated, RefusesFocused, NoSeatFails, IsComplete}
 use Rattle.tuner.specs.Readings.{Reading, Reads, Misused, Bad, words_reading, problem_by, problem_of, ◌>>=◌}
 use Rattle.tuner.specs.SearchEnds.{RanTo, true_run}
+use Rattle.tuner.proofs.RunEndings.{grows_all}
+use Rattle.tuner.specs.declared.cell.Cell.{Cell}
 use Rattle.tuner.specs.declared.status.FileKind.{FileKind}
 use Rattle.tuner.specs.declared.status.What.{What}
 use Rattle.tuner.specs.declared.status.Status.{Status}
@@ -75,17 +78,97 @@ printed_text words files truth out out' text h taken =
       told = λ some. subst (Took out out') (same_output space (true_run truth h.problem) h.entries h.last (h.trajectory.told some)) lines;
     }
 
-said_lines : (words : List (List ℕ)) (files : FilesTold) (truth : Option (Key → Outcome)) (seats : List SpawnerTold) (out out' : SinkTold) (end result : Status) (text : List ℕ)
-    → IsTextOf words files truth seats end text → Said out out' end result text → result ≡ status.Ok → IsPrinted words files truth out out'
-said_lines words files truth seats out out' end result text wanted (whole same taken) ok =
+-- an answer that says what it was to say was written whole
+said_whole : (words : List (List ℕ)) (files : FilesTold) (truth : Option (Key → Outcome)) (seats : List SpawnerTold) (out out' : SinkTold) (end result s : Status) (text : List ℕ)
+    → IsTextOf words files truth seats end text → Said out out' end result text → result ≡ s → is_unsaid s ≡ false → IsTextOf words files truth seats s text × Took out out' text
+said_whole words files truth seats out out' end result s text wanted (whole same taken) e h =
     let P : Status → Type 0 = λ s. IsTextOf words files truth seats s text in
-    printed_text words files truth out out' text (subst P (sym same ∙ ok) wanted) taken
-said_lines words files truth seats out out' end result text wanted (unwritten same part bad) ok = absurd (let no = sym same ∙ ok in cc)
-said_lines words files truth seats out out' end result text wanted (no_memory same part) ok = absurd (let no = sym same ∙ ok in cc)
+    (subst P (sym same ∙ e) wanted, taken)
+said_whole words files truth seats out out' end result s text wanted (unwritten same part bad) e h =
+    absurd (let unsaid : is_unsaid s ≡ true = ap is_unsaid (sym e ∙ same) in cc)
+said_whole words files truth seats out out' end result s text wanted (no_memory same part) e h =
+    absurd (let unsaid : is_unsaid s ≡ true = ap is_unsaid (sym e ∙ same) in cc)
+
+-- what is said of an answer's whole text and of what the output took
+at_whole : (call : Call) (out out' : SinkTold) (result s : Status) → Conducted call out out' result → result ≡ s → is_unsaid s ≡ false
+    → (P : Type 0) → ((text : List ℕ) → IsTextOf call.words call.files call.truth call.seats' s text → Took out out' text → P) → P
+at_whole call out out' result s h e unsaid P f =
+    let both = said_whole call.words call.files call.truth call.seats' out out' h.end result s h.text h.wanted h.said e unsaid in
+    f h.text both.0 both.1
 
 -- the headline
 pub headline_of : (call : Call) (out out' : SinkTold) (result : Status) → Conducted call out out' result → result ≡ status.Ok → IsPrinted call.words call.files call.truth out out'
-headline_of call out out' result h = said_lines call.words call.files call.truth call.seats' out out' h.end result h.text h.wanted h.said
+headline_of call out out' result h ok = at_whole call out out' result status.Ok h ok refl _ (printed_text call.words call.files call.truth out out')
+
+-- ---- aborts, and entries so far
+
+ok_output : (words : List (List ℕ)) (files : FilesTold) (truth : Option (Key → Outcome)) (out out' : SinkTold) (text : List ℕ)
+    → IsSearchText words files truth text → Took out out' text → IsUnabortedOutput words files truth out out'
+ok_output words files truth out out' text h taken = record {
+  problem = h.problem;
+  stated = h.stated;
+  entries = h.entries;
+  last = h.last;
+  printed = subst (Took out out') h.lines taken;
+  holds = λ some. grows_all _ _ (h.trajectory.told some).all;
+  all = λ some. (h.trajectory.quiet some).all;
+  end = λ some. (h.trajectory.quiet some).end;
+}
+
+aborted_output : (words : List (List ℕ)) (files : FilesTold) (truth : Option (Key → Outcome)) (cell : Cell) (out out' : SinkTold) (text : List ℕ)
+    → IsAbortedText words files truth cell text → Took out out' text → IsAbortedOutput words files truth cell out out'
+aborted_output words files truth cell out out' text h taken = record {
+  problem = h.problem;
+  stated = h.stated;
+  entries = h.entries;
+  printed = subst (Took out out') h.lines taken;
+  aborts = h.stopped.aborted;
+  holds = h.stopped.all;
+  first = h.stopped.first;
+}
+
+-- the abort sentence
+pub abort_sentence_of : (call : Call) (out out' : SinkTold) (result : Status) → Conducted call out out' result → AbortSentence call.words call.files call.truth out out' result
+abort_sentence_of call out out' result h = record {
+  ok = λ e. at_whole call out out' result status.Ok h e refl _ (ok_output call.words call.files call.truth out out');
+  aborted = λ cell e. at_whole call out out' result (status.Aborted cell) h e refl _ (aborted_output call.words call.files call.truth cell out out');
+}
+
+-- a part of the text, all of it where it was written whole
+part_said : (out out' : SinkTold) (end result : Status) (text : List ℕ) → Said out out' end result text → TookPartOf out out' text
+part_said out out' end result text (whole same taken) = record { length = length text; taken = taken ∙ ap (after_taking out.taken) (sym (take_all (length text) text (omega arith))) }
+part_said out out' end result text (unwritten same part bad) = part
+part_said out out' end result text (no_memory same part) = part
+
+line_alone : (words : List (List ℕ)) (files : FilesTold) (truth : Option (Key → Outcome)) (out out' : SinkTold) (text line : List ℕ) → begins_with_letter line ≡ true
+    → text ≡ line → TookPartOf out out' text → PrintsFirst words files truth out out'
+line_alone words files truth out out' text line letter e part = none line letter (subst (TookPartOf out out') e part)
+
+short_first : (words : List (List ℕ)) (files : FilesTold) (truth : Option (Key → Outcome)) (out out' : SinkTold) (text : List ℕ)
+    → IsNoMemoryText words files truth text → TookPartOf out out' text → PrintsFirst words files truth out out'
+short_first words files truth out out' text (alone e) part = line_alone words files truth out out' text no_memory_line refl e part
+short_first words files truth out out' text (after_entries problem entries stated first e) part = some problem entries no_memory_line stated first refl (subst (TookPartOf out out') e part)
+
+text_first : (words : List (List ℕ)) (files : FilesTold) (truth : Option (Key → Outcome)) (seats : List SpawnerTold) (out out' : SinkTold) (end : Status) (text : List ℕ)
+    → IsTextOf words files truth seats end text → TookPartOf out out' text → PrintsFirst words files truth out out'
+text_first words files truth seats out out' status.Ok text h part =
+    some h.problem h.entries (end_line h.problem.rules.space h.last) h.stated (λ told. grows_all _ _ (sym (h.trajectory.quiet told).all)) refl (subst (TookPartOf out out') h.lines part)
+text_first words files truth seats out out' (status.Usage place) text h part = line_alone words files truth out out' text (usage_line place) refl h part
+text_first words files truth seats out out' (status.BadFile kind line what) text h part = line_alone words files truth out out' text (bad_file_line h.name line what) refl h.same part
+text_first words files truth seats out out' (status.ReadFault kind) text h part = line_alone words files truth out out' text (read_fault_line h.name) refl h.same part
+text_first words files truth seats out out' status.WriteFault text h part = absurd h
+text_first words files truth seats out out' (status.Aborted cell) text h part =
+    some h.problem h.entries (aborted_line h.problem.rules.space cell.place cell.config) h.stated h.stopped.first refl (subst (TookPartOf out out') h.lines part)
+text_first words files truth seats out out' (status.ChildFault seat) text h part =
+    some h.problem h.entries (child_fault_line h.problem.rules.space h.cell.place h.cell.config) h.stated h.first refl (subst (TookPartOf out out') h.lines part)
+text_first words files truth seats out out' status.NoMemory text h part = short_first words files truth out out' text h part
+text_first words files truth seats out out' (status.TooFewSeats asked given) text h part = line_alone words files truth out out' text (seats_line asked given) refl h part
+text_first words files truth seats out out' status.Unbuilt text h part = line_alone words files truth out out' text unbuilt_line refl h part
+
+-- the prefix clause
+pub prints_first : (call : Call) (out out' : SinkTold) (result : Status) → Conducted call out out' result → PrintsFirst call.words call.files call.truth out out'
+prints_first call out out' result h =
+    text_first call.words call.files call.truth call.seats' out out' h.end h.text h.wanted (part_said out out' h.end result h.text h.said)
 
 -- ---- what is known of words and of told contents
 
@@ -125,10 +208,6 @@ not_misused call p place a h = let same = misused_reading call (Reads p) place a
 
 -- ---- where refusals come
 
-unbuilt_called : (call : Call) → IsUnbuilt call → IsCalled call.words
-unbuilt_called call (focused problem stated seated is) = stated.called
-unbuilt_called call (aborted problem run ended) = run.stated.called
-
 -- a wrong key word gives Usage
 pub refuses_misused : (call : Call) (result : Status) → CauseOf call result → (place : ℕ) → IsMisused call.words place → (result ≡ status.Usage place) ⊎ IsTrue (is_unsaid result)
 refuses_misused call status.Ok c place h = absurd (misused_called call.words place h c.run.stated.called)
@@ -136,14 +215,11 @@ refuses_misused call (status.Usage place') c place h = let same : place' ≡ pla
 refuses_misused call (status.BadFile kind line what) c place h = absurd (misused_called call.words place h c.called)
 refuses_misused call (status.ReadFault kind) c place h = absurd (misused_called call.words place h c.called)
 refuses_misused call status.WriteFault c place h = inr refl
+refuses_misused call (status.Aborted cell) c place h = absurd (misused_called call.words place h c.run.stated.called)
 refuses_misused call (status.ChildFault seat) c place h = absurd (misused_called call.words place h c.1.run.stated.called)
 refuses_misused call status.NoMemory c place h = inr refl
 refuses_misused call (status.TooFewSeats asked given) c place h = absurd (misused_called call.words place h c.stated.called)
-refuses_misused call status.Unbuilt c place h = absurd (misused_called call.words place h (unbuilt_called call c))
-
-unbuilt_stated : (call : Call) (kind : FileKind) (name : List ℕ) (line : ℕ) (what : What) → AreRead call (Bad kind name line what) → IsUnbuilt call → ⊥
-unbuilt_stated call kind name line what a (focused problem stated seated is) = not_stated call problem kind name line what a stated
-unbuilt_stated call kind name line what a (aborted problem run ended) = not_stated call problem kind name line what a run.stated
+refuses_misused call status.Unbuilt c place h = absurd (misused_called call.words place h c.stated.called)
 
 faulty : (call : Call) (result : Status) → CauseOf call result → (kind : FileKind) (name : List ℕ) (line : ℕ) (what : What) → AreRead call (Bad kind name line what)
     → (result ≡ status.BadFile kind line what) ⊎ IsTrue (yields result)
@@ -157,10 +233,11 @@ faulty call (status.BadFile kind' line' what') c kind name line what a =
     inl (λ i. status.BadFile (k i) (l i) (w i))
 faulty call (status.ReadFault kind') c kind name line what a = inr refl
 faulty call status.WriteFault c kind name line what a = inr refl
+faulty call (status.Aborted cell) c kind name line what a = absurd (not_stated call c.problem kind name line what a c.run.stated)
 faulty call (status.ChildFault seat) c kind name line what a = absurd (not_stated call c.1.problem kind name line what a c.1.run.stated)
 faulty call status.NoMemory c kind name line what a = inr refl
 faulty call (status.TooFewSeats asked given) c kind name line what a = absurd (not_stated call c.problem kind name line what a c.stated)
-faulty call status.Unbuilt c kind name line what a = absurd (unbuilt_stated call kind name line what a c)
+faulty call status.Unbuilt c kind name line what a = absurd (not_stated call c.problem kind name line what a c.stated)
 
 -- a file with a fault gives BadFile
 pub refuses_faulty : (call : Call) (result : Status) → CauseOf call result → RefusesFaulty call.words call.files result
@@ -175,10 +252,6 @@ unseated_too call p q a fewer stated seated =
     let enough = subst Q (sym (same_problem call p q a stated)) seated in
     omega (arith, fewer, enough)
 
-unbuilt_seated : (call : Call) (p : Problem) → AreRead call (Reads p) → length call.seats < p.rules.workers → IsUnbuilt call → ⊥
-unbuilt_seated call p a fewer (focused problem stated seated is) = unseated_too call p problem a fewer stated seated
-unbuilt_seated call p a fewer (aborted problem run ended) = unseated_too call p problem a fewer run.stated run.seated
-
 too_few_as : (call : Call) (p : Problem) (asked given : ℕ) → AreRead call (Reads p) → IsTooFew call asked given → status.TooFewSeats asked given ≡ status.TooFewSeats p.rules.workers (length call.seats)
 too_few_as call p asked given a h =
     let w : asked ≡ p.rules.workers = h.workers ∙ ap (λ q. q.rules.workers) (sym (same_problem call p h.problem a h.stated)) in
@@ -192,10 +265,11 @@ unseated call (status.Usage place) c p a fewer = absurd (not_misused call p plac
 unseated call (status.BadFile kind line what) c p a fewer = absurd (not_bad call p kind line what a c)
 unseated call (status.ReadFault kind) c p a fewer = inr refl
 unseated call status.WriteFault c p a fewer = inr refl
+unseated call (status.Aborted cell) c p a fewer = absurd (unseated_too call p c.problem a fewer c.run.stated c.run.seated)
 unseated call (status.ChildFault seat) c p a fewer = absurd (unseated_too call p c.1.problem a fewer c.1.run.stated c.1.run.seated)
 unseated call status.NoMemory c p a fewer = inr refl
 unseated call (status.TooFewSeats asked given) c p a fewer = inl (too_few_as call p asked given a c)
-unseated call status.Unbuilt c p a fewer = absurd (unbuilt_seated call p a fewer c)
+unseated call status.Unbuilt c p a fewer = absurd (unseated_too call p c.problem a fewer c.stated c.seated)
 
 -- a problem that asks for more seats than there are gives TooFewSeats
 pub refuses_unseated : (call : Call) (result : Status) → CauseOf call result → RefusesUnseated call.words call.files (length call.seats) result
@@ -222,6 +296,7 @@ focused_asked call (status.Usage place) c p a seated is = absurd (not_misused ca
 focused_asked call (status.BadFile kind line what) c p a seated is = absurd (not_bad call p kind line what a c)
 focused_asked call (status.ReadFault kind) c p a seated is = inr refl
 focused_asked call status.WriteFault c p a seated is = inr refl
+focused_asked call (status.Aborted cell) c p a seated is = absurd (not_basic call p c.problem a is c.run.stated c.run.approach)
 focused_asked call (status.ChildFault seat) c p a seated is = absurd (not_basic call p c.1.problem a is c.1.run.stated c.1.run.approach)
 focused_asked call status.NoMemory c p a seated is = inr refl
 focused_asked call (status.TooFewSeats asked given) c p a seated is = absurd (too_few_seated call p asked given a seated c)
@@ -235,14 +310,17 @@ refuses_focused call result c = record {
 
 -- ---- completeness
 
-unaborted : (call : Call) (p : Problem) → AreRead call (Reads p) → p.approach ≡ Basic → IsSome call.truth
-    → NeverAborts p.rules.limits (table_of call.truth p) → IsUnbuilt call → ⊥
-unaborted call p a basic truth never (focused q stated seated is) =
+not_focused : (call : Call) (p q : Problem) → AreRead call (Reads p) → p.approach ≡ Basic → StatesProblem call.words call.files q → q.approach ≡ Focused → ⊥
+not_focused call p q a basic stated is =
     let P : Problem → Type 0 = λ r. r.approach ≡ Focused in
-    let is' : p.approach ≡ Focused = subst P (sym (same_problem call p q a stated)) is in cc
-unaborted call p a basic truth never (aborted q run ended) =
+    let here : p.approach ≡ Focused = subst P (sym (same_problem call p q a stated)) is in
+    cc
+
+unaborted : (call : Call) (p q : Problem) → AreRead call (Reads p) → StatesProblem call.words call.files q → NeverAborts p.rules.limits (table_of call.truth p)
+    → (true_run call.truth q).end ≡ Aborted → ⊥
+unaborted call p q a stated never ended =
     let P : Problem → Type 0 = λ r. (true_run call.truth r).end ≡ Aborted in
-    let aborts = subst P (sym (same_problem call p q a run.stated)) (ended truth) in
+    let aborts = subst P (sym (same_problem call p q a stated)) ended in
     let ends = finishes (procedure_of p.approach) (problem_setup p) p.rules.limits (table_of call.truth p) never in
     cc
 
@@ -255,10 +333,11 @@ completed call (status.Usage place) c p a seated basic truth never reads works =
 completed call (status.BadFile kind line what) c p a seated basic truth never reads works = absurd (not_bad call p kind line what a c)
 completed call (status.ReadFault kind) c p a seated basic truth never reads works = absurd (reads c.rose)
 completed call status.WriteFault c p a seated basic truth never reads works = inr refl
+completed call (status.Aborted cell) c p a seated basic truth never reads works = absurd (unaborted call p c.problem a c.run.stated never (c.ended truth))
 completed call (status.ChildFault seat) c p a seated basic truth never reads works = absurd (works seat c.1.before c.1.after c.1.was c.1.is c.1.failure.rose)
 completed call status.NoMemory c p a seated basic truth never reads works = inr refl
 completed call (status.TooFewSeats asked given) c p a seated basic truth never reads works = absurd (too_few_seated call p asked given a seated c)
-completed call status.Unbuilt c p a seated basic truth never reads works = absurd (unaborted call p a basic truth never c)
+completed call status.Unbuilt c p a seated basic truth never reads works = absurd (not_focused call p c.problem a basic c.stated c.focused)
 
 pub complete_of : (call : Call) (result : Status) → CauseOf call result → IsComplete call.words call.files call.files' call.truth call.seats call.seats' result
 complete_of call result c = record {

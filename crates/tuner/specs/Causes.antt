@@ -1,16 +1,17 @@
 -- The cause of each answer of the top call.
 use Rattle.std.specs.Prelude.{ℕ, ◌≡◌, ◌<◌, List, length, slice_get, Option, Some, IfSome, IsSome}
 use Rattle.objective.specs.declared.Outcome.{Outcome}
-use Rattle.outside.specs.declared.runs.Key.{Key}
+use Rattle.wrapper_lines.specs.declared.runs.Key.{Key}
 use Rattle.outside.specs.Counts.{Rose}
 use Rattle.outside.specs.ToldStates.{FilesTold, SpawnerTold}
 use Rattle.scenario_files.specs.declared.draft.Approach.TheVariants.{Basic, Focused}
 use Rattle.uncapped.specs.Procedure.{Finished, Aborted}
-use Rattle.tuner.specs.AskEnds.{IsFailure}
+use Rattle.tuner.specs.AskEnds.{IsFailure, IsAbort}
 use Rattle.tuner.specs.Calls.{Call, call_of, IsMisused, IsCalled, StatesProblem, IsSeated}
 use Rattle.tuner.specs.Problem.{Problem}
 use Rattle.tuner.specs.Readings.{Reads, Bad, problem_of, file_name}
 use Rattle.tuner.specs.SearchEnds.{true_run}
+use Rattle.tuner.specs.declared.cell.Cell.{Cell}
 use Rattle.tuner.specs.declared.status.FileKind.{FileKind}
 use Rattle.tuner.specs.declared.status.What.{What}
 use Rattle.tuner.specs.declared.status.Status.{Status}
@@ -49,24 +50,30 @@ pub record IsTooFew (call : Call) (asked given : ℕ) : Type 0 where
   pub all : given ≡ length call.seats
   pub fewer : given < asked
 
--- the causes of Unbuilt: FocusedILS is asked for, or a child aborts
-pub data IsUnbuilt (call : Call) : Type 0 where
-  focused : (problem : Problem) → StatesProblem call.words call.files problem → IsSeated (length call.seats) problem
-      → problem.approach ≡ Focused → IsUnbuilt call
-  aborted : (problem : Problem) → IsRun call problem
-      → (IsSome call.truth → (true_run call.truth problem).end ≡ Aborted) → IsUnbuilt call
+-- the cause of Unbuilt: FocusedILS is asked for
+pub record IsUnbuilt (call : Call) : Type 0 where
+  pub problem : Problem
+  pub stated : StatesProblem call.words call.files problem
+  pub seated : IsSeated (length call.seats) problem
+  pub focused : problem.approach ≡ Focused
+
+-- the cause of Aborted: the run of this cell aborts, and where a truth is told, so does the uncapped procedure
+pub record IsAborted (call : Call) (cell : Cell) : Type 0 where
+  pub problem : Problem
+  pub run : IsRun call problem
+  pub abort : IsAbort problem call.truth cell
+  pub ended : IsSome call.truth → (true_run call.truth problem).end ≡ Aborted
 
 -- the cause of ChildFault: the count of this seat rose, and its failed run is one of the problem's
 pub record IsChildFault (call : Call) (seat : ℕ) : Type 0 where
   pub problem : Problem
-  pub config : List ℕ
-  pub place : ℕ
+  pub cell : Cell
   pub before : SpawnerTold
   pub after : SpawnerTold
   pub run : IsRun call problem
   pub was : slice_get call.seats seat ≡ Some before
   pub is : slice_get call.seats' seat ≡ Some after
-  pub failure : IsFailure problem before after config place
+  pub failure : IsFailure problem before after cell
 
 -- the cause of each answer, but of want of memory; that of WriteFault is the output's
 abbrev pub CauseOf : Call → Status → Type 0
@@ -75,6 +82,7 @@ CauseOf call (status.Usage place) = IsMisused call.words place
 CauseOf call (status.BadFile kind line what) = IsBadFile call kind line what
 CauseOf call (status.ReadFault kind) = IsUnread call kind
 CauseOf call status.WriteFault = Unit {0}
+CauseOf call (status.Aborted cell) = IsAborted call cell
 CauseOf call (status.ChildFault seat) = (seat ≡ 0) × IsChildFault call seat
 CauseOf call status.NoMemory = Unit {0}
 CauseOf call (status.TooFewSeats asked given) = IsTooFew call asked given

@@ -5,7 +5,7 @@ use Rattle.objective.specs.Costs.{penalty}
 use Rattle.objective.specs.declared.Answer.{Answer}
 use Rattle.objective.specs.declared.Answer.TheVariants.{Solved, Timeout, Crashed, Abort}
 use Rattle.objective.specs.declared.Outcome.{Outcome}
-use Rattle.outside.specs.declared.runs.Key.{Key}
+use Rattle.wrapper_lines.specs.declared.runs.Key.{Key}
 use Rattle.uncapped.specs.Procedure.{Sums}
 use Rattle.uncapped.specs.Totals.{total_cost}
 use Rattle.tuner.specs.Problem.{Problem}
@@ -32,20 +32,20 @@ pub record IsPlace (max_runs place : ℕ) : Type 0 where
 -- the fact of the sum, where there is one
 abbrev pub IfSum : Evaluated → (ℕ → Type 0) → Type 0
 IfSum (Sum x) P = P x.0
-IfSum Aborted P = Unit {0}
+IfSum (Aborted place) P = Unit {0}
 IfSum (Failed place) P = Unit {0}
 IfSum Memory P = Unit {0}
 
--- the fact, where a child aborted
-abbrev pub OnAborted : Evaluated → Type 0 → Type 0
-OnAborted (Sum x) P = Unit {0}
-OnAborted Aborted P = P
-OnAborted (Failed place) P = Unit {0}
-OnAborted Memory P = Unit {0}
+-- the fact of the place, where a child aborted
+abbrev pub IfAborted : Evaluated → (ℕ → Type 0) → Type 0
+IfAborted (Sum x) P = Unit {0}
+IfAborted (Aborted place) P = P place
+IfAborted (Failed place) P = Unit {0}
+IfAborted Memory P = Unit {0}
 
 -- the fact of the place, where a child failed
 abbrev pub IfFailed : Evaluated → (ℕ → Type 0) → Type 0
 IfFailed (Sum x) P = Unit {0}
-IfFailed Aborted P = Unit {0}
+IfFailed (Aborted place) P = Unit {0}
 IfFailed (Failed place) P = P place
 IfFailed Memory P = Unit {0}

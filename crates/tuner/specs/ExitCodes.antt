@@ -1,7 +1,7 @@
 -- The exit number of each
 use Rattle.std.specs.Prelude.{ℕ}
 use Rattle.tuner.specs.declared.status.Status.{Status}
-use Rattle.tuner.specs.declared.status.Status.TheVariants.{Ok, Usage, BadFile, ReadFault, WriteFault, ChildFault, NoMemory, TooFewSeats, Unbuilt}
+use Rattle.tuner.specs.declared.status.Status.TheVariants.{Ok, Usage, BadFile, ReadFault, WriteFault, Aborted, ChildFault, NoMemory, TooFewSeats, Unbuilt}
 
 abbrev pub code_of : Status → ℕ
 code_of Ok = 0
@@ -9,6 +9,7 @@ code_of (Usage place) = 2
 code_of (BadFile kind line what) = 3
 code_of (ReadFault kind) = 4
 code_of WriteFault = 5
+code_of (Aborted cell) = 6
 code_of (ChildFault seat) = 7
 code_of NoMemory = 8
 code_of (TooFewSeats asked given) = 9

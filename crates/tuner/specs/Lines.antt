@@ -28,9 +28,13 @@ entry_lines space entries = flat_map (entry_line space) entries
 abbrev pub end_line : Lists → Incumbent → List ℕ
 end_line space last = codes "end " ++ entry_line space last
 
--- the lines of these entries, and the last line
+-- the lines of these entries, and then this one
+abbrev pub lines_with : Lists → List Incumbent → List ℕ → List ℕ
+lines_with space entries line = entry_lines space entries ++ line
+
+-- the lines of these entries, and the last line of a tuning that ended
 abbrev pub all_lines : Lists → List Incumbent → Incumbent → List ℕ
-all_lines space entries last = entry_lines space entries ++ end_line space last
+all_lines space entries last = lines_with space entries (end_line space last)
 
 -- all that a run of the procedure prints
 abbrev pub output_of : Lists → Run → List ℕ
@@ -55,7 +59,15 @@ seats_line asked given = codes "seats " ++ (decimal asked ++ (codes " " ++ (deci
 abbrev pub bad_file_line : List ℕ → ℕ → What → List ℕ
 bad_file_line name line what = codes "badfile " ++ (name ++ (codes " " ++ (decimal line ++ (codes " " ++ (rule_name what ++ codes "\n")))))
 
--- the place and the settings of the run that failed
+-- a word, and the place and the settings of a run
+abbrev pub run_line : List ℕ → Lists → ℕ → List ℕ → List ℕ
+run_line word space place config =
+    word ++ (codes " " ++ (decimal place ++ (codes " " ++ (settings_of space config ++ codes "\n"))))
+
+-- the line of the run that aborted
+abbrev pub aborted_line : Lists → ℕ → List ℕ → List ℕ
+aborted_line = run_line (codes "aborted")
+
+-- the line of the run that failed
 abbrev pub child_fault_line : Lists → ℕ → List ℕ → List ℕ
-child_fault_line space place config =
-    codes "childfault " ++ (decimal place ++ (codes " " ++ (settings_of space config ++ codes "\n")))
+child_fault_line = run_line (codes "childfault")

@@ -1,18 +1,18 @@
 -- What the top call prints, by how it is to end, and what comes of it.
 use Rattle.std.specs.Prelude.{ℕ, ◌≡◌, List, slice_get, Option, Some, IfSome}
 use Rattle.objective.specs.declared.Outcome.{Outcome}
-use Rattle.outside.specs.declared.runs.Key.{Key}
+use Rattle.wrapper_lines.specs.declared.runs.Key.{Key}
 use Rattle.outside.specs.ToldStates.{FilesTold, SinkTold, SpawnerTold}
 use Rattle.outside.specs.WholePieces.{Took, TookPartOf, WroteBadly}
-use Rattle.param_space.specs.Configurations.{IsConfig}
 use Rattle.uncapped.specs.Procedure.{Incumbent}
 use Rattle.tuner.specs.Calls.{StatesProblem}
-use Rattle.tuner.specs.Evaluations.{IsPlace}
-use Rattle.tuner.specs.Lines.{all_lines, unbuilt_line, no_memory_line, usage_line, bad_file_line, read_fault_line, seats_line, child_fault_line}
+use Rattle.tuner.specs.AskEnds.{IsCell}
+use Rattle.tuner.specs.Lines.{lines_with, all_lines, unbuilt_line, aborted_line, no_memory_line, usage_line, bad_file_line, read_fault_line, seats_line, child_fault_line}
 use Rattle.tuner.specs.Problem.{Problem}
 use Rattle.tuner.specs.ProblemRuns.{run_at}
 use Rattle.tuner.specs.Readings.{Reads, Bad, problem_of, file_name}
-use Rattle.tuner.specs.SearchEnds.{IsTrajectoryOf}
+use Rattle.tuner.specs.SearchEnds.{IsTrajectoryOf, IsStoppedSearch, AreFirst}
+use Rattle.tuner.specs.declared.cell.Cell.{Cell}
 use Rattle.tuner.specs.declared.status.FileKind.{FileKind}
 use Rattle.tuner.specs.declared.status.What.{What}
 use Rattle.tuner.specs.declared.status.Status.{Status}
@@ -39,18 +39,32 @@ pub record IsReadFaultText (words : List (List ℕ)) (files : FilesTold) (kind :
   pub next : IfSome files.contents (λ contents. file_name words contents kind ≡ Reads name)
   pub same : text ≡ read_fault_line name
 
--- the line of the place and the settings of a seat's failed run
-pub record IsChildFaultText (words : List (List ℕ)) (files : FilesTold) (seats : List SpawnerTold) (seat : ℕ) (text : List ℕ) : Type 0 where
+-- the entries of a search that a child aborts, and then the place and the settings of its run
+pub record IsAbortedText (words : List (List ℕ)) (files : FilesTold) (truth : Option (Key → Outcome)) (cell : Cell) (text : List ℕ) : Type 0 where
   pub problem : Problem
   pub stated : StatesProblem words files problem
-  pub config : List ℕ
-  pub place : ℕ
-  pub sound : IsConfig problem.rules.space config
-  pub in_range : IsPlace problem.rules.max_runs place
+  pub entries : List Incumbent
+  pub stopped : IsStoppedSearch problem truth entries
+  pub lines : text ≡ lines_with problem.rules.space entries (aborted_line problem.rules.space cell.place cell.config)
+
+-- the entries of a search so far, and then the place and the settings of a seat's failed run
+pub record IsChildFaultText (words : List (List ℕ)) (files : FilesTold) (truth : Option (Key → Outcome)) (seats : List SpawnerTold) (seat : ℕ) (text : List ℕ) : Type 0 where
+  pub problem : Problem
+  pub stated : StatesProblem words files problem
+  pub entries : List Incumbent
+  pub first : AreFirst problem truth entries
+  pub cell : Cell
+  pub in_problem : IsCell problem cell
   pub after : SpawnerTold
   pub is : slice_get seats seat ≡ Some after
-  pub failed : after.failed_run ≡ Some (run_at problem config place)
-  pub same : text ≡ child_fault_line problem.rules.space place config
+  pub failed : after.failed_run ≡ Some (run_at problem cell.config cell.place)
+  pub lines : text ≡ lines_with problem.rules.space entries (child_fault_line problem.rules.space cell.place cell.config)
+
+-- the line that there is no memory, by itself or after the entries of a search so far
+pub data IsNoMemoryText (words : List (List ℕ)) (files : FilesTold) (truth : Option (Key → Outcome)) (text : List ℕ) : Type 0 where
+  alone : text ≡ no_memory_line → IsNoMemoryText words files truth text
+  after_entries : (problem : Problem) (entries : List Incumbent) → StatesProblem words files problem → AreFirst problem truth entries
+      → text ≡ lines_with problem.rules.space entries no_memory_line → IsNoMemoryText words files truth text
 
 -- the whole text of a call that is to end so; the seats are those after the call
 abbrev pub IsTextOf : List (List ℕ) → FilesTold → Option (Key → Outcome) → List SpawnerTold → Status → List ℕ → Type 0
@@ -59,8 +73,9 @@ IsTextOf words files truth seats (status.Usage place) text = text ≡ usage_line
 IsTextOf words files truth seats (status.BadFile kind line what) text = IsBadFileText words files kind line what text
 IsTextOf words files truth seats (status.ReadFault kind) text = IsReadFaultText words files kind text
 IsTextOf words files truth seats status.WriteFault text = ⊥
-IsTextOf words files truth seats (status.ChildFault seat) text = IsChildFaultText words files seats seat text
-IsTextOf words files truth seats status.NoMemory text = text ≡ no_memory_line
+IsTextOf words files truth seats (status.Aborted cell) text = IsAbortedText words files truth cell text
+IsTextOf words files truth seats (status.ChildFault seat) text = IsChildFaultText words files truth seats seat text
+IsTextOf words files truth seats status.NoMemory text = IsNoMemoryText words files truth text
 IsTextOf words files truth seats (status.TooFewSeats asked given) text = text ≡ seats_line asked given
 IsTextOf words files truth seats status.Unbuilt text = text ≡ unbuilt_line
 

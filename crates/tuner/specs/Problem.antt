@@ -1,7 +1,7 @@
 -- What is tuned.
 use Rattle.scenario_files.specs.declared.draft.Approach.{Approach}
 use Rattle.instance_pairs.specs.Pairs.{Plan}
-use Rattle.outside.specs.declared.runs.Program.{Program}
+use Rattle.wrapper_lines.specs.declared.runs.Program.{Program}
 use Rattle.ils_face.specs.Rules.{Rules}
 
 pub record Problem : Type 0 where

@@ -7,9 +7,9 @@ use Rattle.param_space.specs.Settings.{active_values}
 use Rattle.scenario_files.specs.declared.draft.Approach.{Approach}
 use Rattle.scenario_files.specs.declared.draft.Approach.TheVariants.{Basic, Focused}
 use Rattle.instance_pairs.specs.Pairs.{pair_at}
-use Rattle.outside.specs.declared.runs.Setting.{Setting}
-use Rattle.outside.specs.declared.runs.Key.{Key}
-use Rattle.outside.specs.declared.runs.Run.{Run}
+use Rattle.wrapper_lines.specs.declared.runs.Setting.{Setting}
+use Rattle.wrapper_lines.specs.declared.runs.Key.{Key}
+use Rattle.wrapper_lines.specs.declared.runs.Run.{Run}
 use Rattle.uncapped.specs.Setup.{Setup}
 use Rattle.uncapped.specs.Totals.{total_cost}
 use Rattle.uncapped.specs.Uncapped

@@ -1,21 +1,24 @@
 -- The promises of the top call.
-use Rattle.std.specs.Prelude.{ℕ, ◌≡◌, ◌<◌, ◌⊎◌, Bool, true, false, IsTrue, List, length, slice_get, Option, Some, IsSome}
+use Rattle.std.specs.Prelude.{ℕ, ◌≡◌, ◌<◌, ◌⊎◌, Bool, true, false, IsTrue, List, [], ◌∷◌, length, nat_le, slice_get, Option, Some, IsSome}
 use Rattle.objective.specs.declared.Outcome.{Outcome}
-use Rattle.outside.specs.declared.runs.Key.{Key}
+use Rattle.wrapper_lines.specs.declared.runs.Key.{Key}
 use Rattle.outside.specs.Counts.{Rose}
 use Rattle.outside.specs.ToldStates.{FilesTold, SinkTold, SpawnerTold}
-use Rattle.outside.specs.WholePieces.{Took}
+use Rattle.outside.specs.WholePieces.{Took, TookPartOf}
 use Rattle.scenario_files.specs.declared.draft.Approach.TheVariants.{Basic, Focused}
-use Rattle.uncapped.specs.Procedure.{Incumbent, Finished}
+use Rattle.uncapped.specs.Procedure.{Incumbent, Finished, Aborted}
 use Rattle.uncapped.specs.Totals.{NeverAborts}
+use Rattle.ils_face.specs.Aborts.{entries_of}
+use Rattle.ils_face.specs.Steady.{Grows}
+use Rattle.tuner.specs.declared.cell.Cell.{Cell}
 use Rattle.tuner.specs.Calls.{Call, IsMisused, StatesProblem, IsSeated}
 use Rattle.tuner.specs.Causes.{CauseOf, IsRun}
-use Rattle.tuner.specs.Lines.{all_lines, output_of}
+use Rattle.tuner.specs.Lines.{lines_with, all_lines, output_of, aborted_line}
 use Rattle.tuner.specs.PrintedTexts.{IsTextOf, Said}
 use Rattle.tuner.specs.Problem.{Problem}
 use Rattle.tuner.specs.ProblemRuns.{table_of}
 use Rattle.tuner.specs.Readings.{Reads, Bad, problem_of}
-use Rattle.tuner.specs.SearchEnds.{IsSearched, true_run}
+use Rattle.tuner.specs.SearchEnds.{IsSearched, AreFirst, true_run, quiet_run}
 use Rattle.tuner.specs.declared.status.FileKind.{FileKind}
 use Rattle.tuner.specs.declared.status.What.{What}
 use Rattle.tuner.specs.declared.status.Status.{Status}
@@ -61,6 +64,47 @@ pub record IsPrinted (words : List (List ℕ)) (files : FilesTold) (truth : Opti
 abbrev pub Headline : List (List ℕ) → FilesTold → Option (Key → Outcome) → SinkTold → SinkTold → Status → Type 0
 Headline words files truth out out' result = result ≡ status.Ok → IsPrinted words files truth out out'
 
+-- ---- aborts, and entries so far
+
+-- with Ok all entries and the last line of the uncapped procedure with each abort as unsolved were printed, where a truth is told
+pub record IsUnabortedOutput (words : List (List ℕ)) (files : FilesTold) (truth : Option (Key → Outcome)) (out out' : SinkTold) : Type 0 where
+  pub problem : Problem
+  pub stated : StatesProblem words files problem
+  pub entries : List Incumbent
+  pub last : Incumbent
+  pub printed : Took out out' (all_lines problem.rules.space entries last)
+  pub holds : IsSome truth → Grows (entries_of (true_run truth problem)) entries
+  pub all : IsSome truth → entries ≡ entries_of (quiet_run truth problem)
+  pub end : IsSome truth → last ≡ (quiet_run truth problem).last
+
+-- with Aborted entries and the line of the cell were printed: where a truth is told, the uncapped procedure is aborted,
+-- its entries are the first ones of these, and these are the first ones of it with each abort as unsolved
+pub record IsAbortedOutput (words : List (List ℕ)) (files : FilesTold) (truth : Option (Key → Outcome)) (cell : Cell) (out out' : SinkTold) : Type 0 where
+  pub problem : Problem
+  pub stated : StatesProblem words files problem
+  pub entries : List Incumbent
+  pub printed : Took out out' (lines_with problem.rules.space entries (aborted_line problem.rules.space cell.place cell.config))
+  pub aborts : IsSome truth → (true_run truth problem).end ≡ Aborted
+  pub holds : IsSome truth → Grows (entries_of (true_run truth problem)) entries
+  pub first : AreFirst problem truth entries
+
+-- the abort sentence
+pub record AbortSentence (words : List (List ℕ)) (files : FilesTold) (truth : Option (Key → Outcome)) (out out' : SinkTold) (result : Status) : Type 0 where
+  pub ok : result ≡ status.Ok → IsUnabortedOutput words files truth out out'
+  pub aborted : (cell : Cell) → result ≡ status.Aborted cell → IsAbortedOutput words files truth cell out out'
+
+-- the text isn't empty, and begins with a lower-case letter: it is no entry's line
+abbrev pub begins_with_letter : List ℕ → Bool
+begins_with_letter [] = false
+begins_with_letter (byte ∷ rest) = nat_le 97 byte
+
+-- whatever the answer, the output took the lines of entries and then one that is none, or a first part of these; where a
+-- truth is told, the entries are the first ones of the uncapped procedure over it with each abort as unsolved
+pub data PrintsFirst (words : List (List ℕ)) (files : FilesTold) (truth : Option (Key → Outcome)) (out out' : SinkTold) : Type 0 where
+  none : (line : List ℕ) → IsTrue (begins_with_letter line) → TookPartOf out out' line → PrintsFirst words files truth out out'
+  some : (problem : Problem) (entries : List Incumbent) (line : List ℕ) → StatesProblem words files problem → AreFirst problem truth entries
+      → IsTrue (begins_with_letter line) → TookPartOf out out' (lines_with problem.rules.space entries line) → PrintsFirst words files truth out out'
+
 -- ---- refusals
 
 -- an answer that any call may have: want of memory, or a failed write
@@ -72,6 +116,7 @@ is_unsaid status.Unbuilt = false
 is_unsaid (status.Usage place) = false
 is_unsaid (status.BadFile kind line what) = false
 is_unsaid (status.ReadFault kind) = false
+is_unsaid (status.Aborted cell) = false
 is_unsaid (status.ChildFault seat) = false
 is_unsaid (status.TooFewSeats asked given) = false
 
@@ -84,6 +129,7 @@ yields status.Ok = false
 yields status.Unbuilt = false
 yields (status.Usage place) = false
 yields (status.BadFile kind line what) = false
+yields (status.Aborted cell) = false
 yields (status.ChildFault seat) = false
 yields (status.TooFewSeats asked given) = false
 

@@ -14,8 +14,8 @@ use Rattle.scenario_files.specs.Files.{scenario_read}
 use Rattle.scenario_files.specs.Scenarios.{filled_scenario}
 use Rattle.instance_pairs.specs.declared.instances.Instance.{Instance}
 use Rattle.instance_pairs.specs.Pairs.{Plan, max_runs_of}
-use Rattle.outside.specs.declared.runs.Program.{Program}
-use Rattle.outside.specs.Runs.{program_words}
+use Rattle.wrapper_lines.specs.declared.runs.Program.{Program}
+use Rattle.wrapper_lines.specs.Runs.{program_words}
 use Rattle.ils_face.specs.Rules.{Rules}
 use Rattle.tuner.specs.Problem.{Problem}
 

@@ -1,16 +1,20 @@
 -- What a search that made all comparisons comes to, and how a search ends, by cases.
 use Rattle.std.specs.Prelude.{ℕ, ◌≡◌, List, map, Option, IsSome}
 use Rattle.objective.specs.declared.Outcome.{Outcome}
-use Rattle.outside.specs.declared.runs.Key.{Key}
+use Rattle.wrapper_lines.specs.declared.runs.Key.{Key}
 use Rattle.param_space.specs.Configurations.{IsConfig}
+use Rattle.ils_face.specs.Aborts.{entries_of}
 use Rattle.ils_face.specs.Rules.{Rules}
+use Rattle.ils_face.specs.Steady.{Grows}
 use Rattle.ils_face.specs.Trajectories.{IsTrajectory, newest}
-use Rattle.uncapped.specs.Procedure.{Incumbent, Finished}
+use Rattle.uncapped.specs.Procedure.{Incumbent, Finished, Aborted}
+use Rattle.uncapped.specs.Totals.{quiet}
 use Rattle.uncapped.specs.Uncapped
 use Rattle.tuner.specs.Problem.{Problem}
 use Rattle.tuner.specs.ProblemRuns.{table_of, uncapped_run}
+use Rattle.tuner.specs.declared.cell.Cell.{Cell}
 use Rattle.tuner.specs.declared.searching.Searched.{Searched}
-use Rattle.tuner.specs.declared.searching.Searched.TheVariants.{Ended, Aborted, Failed, Memory}
+use Rattle.tuner.specs.declared.searching.Searched.TheVariants as searched
 
 -- entries and a last line of a search under these rules that made all comparisons
 pub record IsSearched (rules : Rules) (entries : List Incumbent) (last : Incumbent) : Type 0 where
@@ -28,28 +32,43 @@ pub record RanTo (run : Uncapped.Run) (entries : List Incumbent) (last : Incumbe
 abbrev pub true_run : Option (Key → Outcome) → Problem → Uncapped.Run
 true_run truth problem = uncapped_run problem (table_of truth problem)
 
--- what a search of a problem prints, where it made all comparisons: where a truth is told, what the uncapped procedure comes to
+-- the run of the uncapped procedure over the same truth with each abort as unsolved
+abbrev pub quiet_run : Option (Key → Outcome) → Problem → Uncapped.Run
+quiet_run truth problem = uncapped_run problem (quiet (table_of truth problem))
+
+-- where a truth is told, these are the first entries of the uncapped procedure over it with each abort as unsolved
+abbrev pub AreFirst : Problem → Option (Key → Outcome) → List Incumbent → Type 0
+AreFirst problem truth entries = IsSome truth → Grows entries (entries_of (quiet_run truth problem))
+
+-- what a search of a problem comes to that made all comparisons: where a truth is told, what the uncapped procedure comes to
 pub record IsTrajectoryOf (problem : Problem) (truth : Option (Key → Outcome)) (entries : List Incumbent) (last : Incumbent) : Type 0 where
   pub searched : IsSearched problem.rules entries last
   pub told : IsSome truth → RanTo (true_run truth problem) entries last
+  pub quiet : IsSome truth → RanTo (quiet_run truth problem) entries last
+
+-- what a search of a problem comes to that a child aborts: where a truth is told, the entries of the uncapped procedure, which is aborted
+pub record IsStoppedSearch (problem : Problem) (truth : Option (Key → Outcome)) (entries : List Incumbent) : Type 0 where
+  pub first : AreFirst problem truth entries
+  pub all : IsSome truth → Grows (entries_of (true_run truth problem)) entries
+  pub aborted : IsSome truth → (true_run truth problem).end ≡ Aborted
 
 -- the fact, where the search ended
 abbrev pub OnEnded : Searched → Type 0 → Type 0
-OnEnded Ended P = P
-OnEnded Aborted P = Unit {0}
-OnEnded (Failed config place) P = Unit {0}
-OnEnded Memory P = Unit {0}
+OnEnded searched.Ended P = P
+OnEnded (searched.Aborted cell) P = Unit {0}
+OnEnded (searched.Failed cell) P = Unit {0}
+OnEnded searched.Memory P = Unit {0}
 
--- the fact, where a child aborted
-abbrev pub OnSearchAborted : Searched → Type 0 → Type 0
-OnSearchAborted Ended P = Unit {0}
-OnSearchAborted Aborted P = P
-OnSearchAborted (Failed config place) P = Unit {0}
-OnSearchAborted Memory P = Unit {0}
+-- the fact of the cell, where a child aborted
+abbrev pub IfSearchAborted : Searched → (Cell → Type 0) → Type 0
+IfSearchAborted searched.Ended P = Unit {0}
+IfSearchAborted (searched.Aborted cell) P = P cell
+IfSearchAborted (searched.Failed cell) P = Unit {0}
+IfSearchAborted searched.Memory P = Unit {0}
 
--- the fact of the configuration and the place, where a child failed
-abbrev pub IfSearchFailed : Searched → (List ℕ → ℕ → Type 0) → Type 0
-IfSearchFailed Ended P = Unit {0}
-IfSearchFailed Aborted P = Unit {0}
-IfSearchFailed (Failed config place) P = P config place
-IfSearchFailed Memory P = Unit {0}
+-- the fact of the cell, where a child failed
+abbrev pub IfSearchFailed : Searched → (Cell → Type 0) → Type 0
+IfSearchFailed searched.Ended P = Unit {0}
+IfSearchFailed (searched.Aborted cell) P = Unit {0}
+IfSearchFailed (searched.Failed cell) P = P cell
+IfSearchFailed searched.Memory P = Unit {0}

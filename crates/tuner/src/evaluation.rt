@@ -4,10 +4,10 @@ ghost use Rattle.objective.specs.Costs.{cost_of, IsWithin};
 ghost use Rattle.objective.specs.Limits.{max_cutoff};
 ghost use Rattle.objective.specs.declared.Outcome.{Outcome};
 ghost use Rattle.outside.specs.Counts.{Rose};
-ghost use Rattle.outside.specs.declared.runs.Key.{Key};
+ghost use Rattle.wrapper_lines.specs.declared.runs.Key.{Key};
 ghost use Rattle.param_space.specs.Space.{Belongs};
 ghost use Rattle.tuner.specs.ProblemRuns.{table_of, run_at};
-ghost use Rattle.tuner.specs.Evaluations.{cost_seen, sums_of, IfSum, OnAborted, IfFailed, IsPlace};
+ghost use Rattle.tuner.specs.Evaluations.{cost_seen, sums_of, IfSum, IfAborted, IfFailed, IsPlace};
 
 use crate::problem::Problem;
 use crate::running::{RunEnd, run_once};
@@ -22,8 +22,11 @@ use std::sync::Wait;
 pub(crate) enum Evaluated {
     /// All runs were made, and this is their total cost.
     Sum(Sum),
-    /// A child asked for the end of the tuning.
-    Aborted,
+    /// The child at this place, from 1, asked for the end of the tuning.
+    Aborted {
+        /// The place.
+        place: u32,
+    },
     /// The child at this place, from 1, couldn't be started or looked at.
     Failed {
         /// The place.
@@ -64,7 +67,8 @@ fn cost_at<R: Wait, S: Spawner>(
     ensures counts { (S.told spawner.old).faults ≤ (S.told spawner.new).faults }
     ensures sum { IfSum result (λ x. (outcome : Key → Outcome) → S.truth ≡ Some outcome → cost_of problem.now.rules.limits (table_of (Some outcome) problem.now config.now place) ≡ Some x) }
     ensures bound { IfSum result (λ x. x ≤ 1000 * max_cutoff) }
-    ensures aborted { OnAborted result ((outcome : Key → Outcome) → S.truth ≡ Some outcome → cost_of problem.now.rules.limits (table_of (Some outcome) problem.now config.now place) ≡ None) }
+    ensures aborted { IfAborted result (λ i. i ≡ place) }
+    ensures unsolved { IfAborted result (λ i. (outcome : Key → Outcome) → S.truth ≡ Some outcome → cost_of problem.now.rules.limits (table_of (Some outcome) problem.now config.now place) ≡ None) }
     ensures failed { IfFailed result (λ i. i ≡ place) }
     ensures fault { IfFailed result (λ i. Rose (S.told spawner.old).faults (S.told spawner.new).faults) }
     ensures failed_run { IfFailed result (λ i. (S.told spawner.new).failed_run ≡ Some (run_at problem.now config.now place)) }
@@ -75,7 +79,7 @@ fn cost_at<R: Wait, S: Spawner>(
     match run_once(rt, alloc, spawner, &problem.program, &run) {
         RunEnd::Answer(answer) => match cost_of_answer(answer, &problem.rules.limits) {
             Some(cost) => Evaluated::Sum(cost),
-            None => Evaluated::Aborted,
+            None => Evaluated::Aborted { place },
         },
         RunEnd::Failed => Evaluated::Failed { place },
         RunEnd::Memory => Evaluated::Memory,
@@ -98,7 +102,9 @@ pub(crate) fn evaluate<R: Wait, S: Spawner>(
     ensures idle { IsTrue (S.told spawner.new).idle }
     ensures counts { (S.told spawner.old).faults ≤ (S.told spawner.new).faults }
     ensures sum { IfSum result (λ x. (outcome : Key → Outcome) → S.truth ≡ Some outcome → sums_of problem.now outcome config.now n ≡ Some x) }
-    ensures aborted { OnAborted result ((outcome : Key → Outcome) → S.truth ≡ Some outcome → sums_of problem.now outcome config.now n ≡ None) }
+    ensures aborted { IfAborted result (λ place. IsPlace problem.now.rules.max_runs place) }
+    ensures unsolved { IfAborted result (λ place. (outcome : Key → Outcome) → S.truth ≡ Some outcome → cost_of problem.now.rules.limits (table_of (Some outcome) problem.now config.now place) ≡ None) }
+    ensures unknown { IfAborted result (λ place. (outcome : Key → Outcome) → S.truth ≡ Some outcome → sums_of problem.now outcome config.now n ≡ None) }
     ensures failed { IfFailed result (λ place. IsPlace problem.now.rules.max_runs place) }
     ensures fault { IfFailed result (λ place. Rose (S.told spawner.old).faults (S.told spawner.new).faults) }
     ensures failed_run { IfFailed result (λ place. (S.told spawner.new).failed_run ≡ Some (run_at problem.now config.now place)) }
@@ -108,7 +114,7 @@ pub(crate) fn evaluate<R: Wait, S: Spawner>(
     for done in 0..n {
         match cost_at(rt, alloc, problem, config, done + 1, spawner) {
             Evaluated::Sum(cost) => sum = add(sum, cost),
-            Evaluated::Aborted => return Evaluated::Aborted,
+            Evaluated::Aborted { place } => return Evaluated::Aborted { place },
             Evaluated::Failed { place } => return Evaluated::Failed { place },
             Evaluated::Memory => return Evaluated::Memory,
         }

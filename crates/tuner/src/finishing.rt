@@ -1,5 +1,5 @@
 //! A search is run, and how that ended is printed.
-ghost use Rattle.std.specs.Prelude.{◌≡◌, IsTrue};
+ghost use Rattle.std.specs.Prelude.{◌≡◌, ℕ, IsTrue, List, IfOk};
 ghost use Rattle.objective.specs.Costs.{Table};
 ghost use Rattle.param_space.specs.Space.{Belongs};
 ghost use Rattle.uncapped.specs.Uncapped.{uncapped};
@@ -13,17 +13,40 @@ ghost use Rattle.tuner.specs.PrintedTexts.{Reported};
 ghost use Rattle.tuner.specs.Promises.{Conducted, RunsOn};
 ghost use Rattle.tuner.specs.SearchEnds.{IsSearched};
 
-use crate::lines::{all_lines, child_fault_line};
+use crate::cell::Cell;
+use crate::lines::{end_line, lines_with, no_memory_line, run_line};
 use crate::problem::Problem;
-use crate::saying::{say, say_all, say_made, say_no_memory};
+use crate::saying::{say_all, say_no_memory};
 use crate::searching::{Searched, meet_all};
 use crate::seat::Seat;
 use crate::status::Status;
 use ils_face::Search;
+use objective::Memory;
 use outside::{Sink, Spawner};
-use param_space::Config;
 use std::alloc::Global;
 use std::sync::Wait;
+
+/// Prints the incumbents of a search so far, and then this line of a call that is to end so.
+fn report<P: Search, O: Sink>(
+    alloc: Global,
+    problem: &Problem,
+    search: &P,
+    line: Result<Vec<u8>, Memory>,
+    end: Status,
+    out: &mut O,
+) -> Status
+    requires { P.rules_of search.now ≡ problem.now.rules }
+    ensures { (text : List ℕ) → IfOk line (λ l. l.items ≡ text) → Reported (O.told out.old) (O.told out.new) result end (Lines.lines_with problem.now.rules.space (P.shown problem.now.rules (P.replies_of search.now)).entries text) }
+{
+    let entries = search.entries();
+    let Ok(line) = line else {
+        return say_no_memory(out);
+    };
+    match lines_with(alloc, &problem.rules.space, entries, line) {
+        Ok(lines) => say_all(out, lines.as_slice(), end),
+        Err(_) => say_no_memory(out),
+    }
+}
 
 /// Prints the incumbents of a search that has ended, and the last line.
 fn report_end<P: Search, O: Sink>(
@@ -36,25 +59,76 @@ fn report_end<P: Search, O: Sink>(
     requires searched { let view = P.shown problem.now.rules (P.replies_of search.now) in IsSearched problem.now.rules view.entries view.last }
     ensures { let view = P.shown problem.now.rules (P.replies_of search.now) in Reported (O.told out.old) (O.told out.new) result Status.Ok (Lines.all_lines problem.now.rules.space view.entries view.last) }
 {
-    match all_lines(alloc, &problem.rules.space, search) {
-        Ok(lines) => say_all(out, lines.as_slice(), Status::Ok),
-        Err(_) => say_no_memory(out),
-    }
+    let line = end_line(alloc, &problem.rules.space, search);
+    report(alloc, problem, search, line, Status::Ok, out)
 }
 
-/// Prints the place and the settings of the run that failed.
-fn report_failure<O: Sink>(
+/// Prints the incumbents of a search so far, and the place and the settings of the run that
+/// aborted.
+fn report_abort<P: Search, O: Sink>(
     alloc: Global,
     problem: &Problem,
-    config: &Config,
-    place: u32,
+    search: &P,
+    cell: Cell,
     out: &mut O,
 ) -> Status
-    requires { Belongs problem.now.rules.space.params config.now }
-    ensures { Reported (O.told out.old) (O.told out.new) result (Status.ChildFault 0) (Lines.child_fault_line problem.now.rules.space place config.now) }
+    requires rules { P.rules_of search.now ≡ problem.now.rules }
+    requires sound { Belongs problem.now.rules.space.params cell.config }
+    ensures { let entries = (P.shown problem.now.rules (P.replies_of search.now)).entries in Reported (O.told out.old) (O.told out.new) result (Status.Aborted cell) (Lines.lines_with problem.now.rules.space entries (Lines.aborted_line problem.now.rules.space cell.place cell.config)) }
 {
-    let line = child_fault_line(alloc, &problem.rules.space, place, config);
-    say_made(out, line, Status::ChildFault { seat: 0 })
+    let line = run_line(
+        alloc,
+        "aborted",
+        &problem.rules.space,
+        cell.place,
+        &cell.config,
+    );
+    report(alloc, problem, search, line, Status::Aborted { cell }, out)
+}
+
+/// Prints the incumbents of a search so far, and the place and the settings of the run that
+/// failed.
+fn report_failure<P: Search, O: Sink>(
+    alloc: Global,
+    problem: &Problem,
+    search: &P,
+    cell: &Cell,
+    out: &mut O,
+) -> Status
+    requires rules { P.rules_of search.now ≡ problem.now.rules }
+    requires sound { Belongs problem.now.rules.space.params cell.now.config }
+    ensures { let entries = (P.shown problem.now.rules (P.replies_of search.now)).entries in Reported (O.told out.old) (O.told out.new) result (Status.ChildFault 0) (Lines.lines_with problem.now.rules.space entries (Lines.child_fault_line problem.now.rules.space cell.now.place cell.now.config)) }
+{
+    let line = run_line(
+        alloc,
+        "childfault",
+        &problem.rules.space,
+        cell.place,
+        &cell.config,
+    );
+    report(
+        alloc,
+        problem,
+        search,
+        line,
+        Status::ChildFault { seat: 0 },
+        out,
+    )
+}
+
+/// Prints the incumbents of a search so far, and that there is no memory left; where there is
+/// none for their lines either, only that.
+fn report_no_memory<P: Search, O: Sink>(
+    alloc: Global,
+    problem: &Problem,
+    search: &P,
+    out: &mut O,
+) -> Status
+    requires { P.rules_of search.now ≡ problem.now.rules }
+    ensures { let entries = (P.shown problem.now.rules (P.replies_of search.now)).entries in Reported (O.told out.old) (O.told out.new) result Status.NoMemory (Lines.lines_with problem.now.rules.space entries Lines.no_memory_line) }
+{
+    let line = no_memory_line(alloc);
+    report(alloc, problem, search, line, Status::NoMemory, out)
 }
 
 /// Runs the search of a problem on a seat, and prints how that ended. It may wait.
@@ -75,8 +149,8 @@ pub(crate) fn run_search<R: Wait, P: Search, O: Sink, S: Spawner>(
     };
     match meet_all(rt, alloc, problem, &mut search, &mut seat.spawner) {
         Searched::Ended => report_end(alloc, problem, &search, out),
-        Searched::Aborted => say(out, b"unbuilt\n", Status::Unbuilt),
-        Searched::Failed { config, place } => report_failure(alloc, problem, &config, place, out),
-        Searched::Memory => say_no_memory(out),
+        Searched::Aborted { cell } => report_abort(alloc, problem, &search, cell, out),
+        Searched::Failed { cell } => report_failure(alloc, problem, &search, &cell, out),
+        Searched::Memory => report_no_memory(alloc, problem, &search, out),
     }
 }

@@ -1,6 +1,7 @@
 //! The top call: it reads words and files, runs the search, and prints.
 #![tactic(auto)]
 
+mod cell;
 mod evaluation;
 mod finishing;
 mod lines;
@@ -16,6 +17,7 @@ mod status;
 mod truth;
 mod tuning;
 
+pub use cell::Cell;
 pub use problem::Problem;
 pub use seat::Seat;
 pub use status::{FileKind, Status, What};

@@ -45,28 +45,17 @@ fn entry_lines(alloc: Global, space: &Space, entries: &[Entry]) -> Result<Vec<Ve
     Ok(lines)
 }
 
-/// The last line of a tuning that ended: `end` and the incumbent's line.
-fn end_line(alloc: Global, entry: &[u8]) -> Result<Vec<u8>, Memory>
-    ensures { IfOk result (λ line. line.items ≡ codes "end " ++ entry.now) }
-{
-    let mut line = Vec::from_slice(alloc, b"end ")?;
-    line.extend_from_slice(entry)?;
-    Ok(line)
-}
-
-/// All lines of a search that has ended: those of its incumbents, and the last line.
-pub(crate) fn all_lines<P: Search>(
+/// The last line of a tuning that ended: `end`, the comparisons made and the incumbent.
+pub(crate) fn end_line<P: Search>(
     alloc: Global,
     space: &Space,
     search: &P,
-) -> Result<Vec<Vec<u8>>, Memory>
-    requires entries { All (λ e. IsConfig space.now e.config) (P.shown (P.rules_of search.now) (P.replies_of search.now)).entries }
-    requires last { IsConfig space.now (P.shown (P.rules_of search.now) (P.replies_of search.now)).last.config }
-    ensures { IfOk result (λ lines. let view = P.shown (P.rules_of search.now) (P.replies_of search.now) in flat_map (λ line. line.items) lines.items ≡ Lines.all_lines space.now view.entries view.last) }
+) -> Result<Vec<u8>, Memory>
+    requires { IsConfig space.now (P.shown (P.rules_of search.now) (P.replies_of search.now)).last.config }
+    ensures { IfOk result (λ line. line.items ≡ Lines.end_line space.now (P.shown (P.rules_of search.now) (P.replies_of search.now)).last) }
 {
-    let mut lines = entry_lines(alloc, space, search.entries())?;
     let (runs, sum) = (search.incumbent_runs(), search.incumbent_sum());
-    let last = entry_line(
+    let entry = entry_line(
         alloc,
         space,
         search.compared(),
@@ -74,8 +63,31 @@ pub(crate) fn all_lines<P: Search>(
         sum,
         search.incumbent(),
     )?;
-    lines.push(end_line(alloc, last.as_slice())?)?;
+    let mut line = Vec::from_slice(alloc, b"end ")?;
+    line.extend_from_slice(entry.as_slice())?;
+    Ok(line)
+}
+
+/// The lines of these incumbents, and then this one.
+pub(crate) fn lines_with(
+    alloc: Global,
+    space: &Space,
+    entries: &[Entry],
+    line: Vec<u8>,
+) -> Result<Vec<Vec<u8>>, Memory>
+    requires { All (λ e. IsConfig space.now e.config) entries.now }
+    ensures { IfOk result (λ lines. flat_map (λ l. l.items) lines.items ≡ Lines.lines_with space.now entries.now line.items) }
+{
+    let mut lines = entry_lines(alloc, space, entries)?;
+    lines.push(line)?;
     Ok(lines)
+}
+
+/// The line that there is no memory left.
+pub(crate) fn no_memory_line(alloc: Global) -> Result<Vec<u8>, Memory>
+    ensures { IfOk result (λ line. line.items ≡ Lines.no_memory_line) }
+{
+    Ok(Vec::from_slice(alloc, b"nomemory\n")?)
 }
 
 /// The line of a wrong word: its place, from 0.
@@ -112,17 +124,18 @@ pub(crate) fn seats_line(alloc: Global, asked: u32, given: u32) -> Result<Vec<u8
     Ok(format!(in alloc; "seats {asked} {given}\n")?.into_bytes())
 }
 
-/// The line of a child that failed: its place and its settings.
-pub(crate) fn child_fault_line(
+/// A word, and the place and the settings of a run.
+pub(crate) fn run_line(
     alloc: Global,
+    word: &str,
     space: &Space,
     place: u32,
     config: &Config,
 ) -> Result<Vec<u8>, Memory>
     requires { Belongs space.now.params config.now }
-    ensures { IfOk result (λ line. line.items ≡ Lines.child_fault_line space.now place config.now) }
+    ensures { IfOk result (λ line. line.items ≡ Lines.run_line word.now space.now place config.now) }
 {
-    let mut line = format!(in alloc; "childfault {place} ")?.into_bytes();
+    let mut line = format!(in alloc; "{word} {place} ")?.into_bytes();
     space.push_settings(config, &mut line)?;
     line.push(b'\n')?;
     Ok(line)

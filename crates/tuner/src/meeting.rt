@@ -1,13 +1,14 @@
 //! How an ask is met: all its places are run, each under the full cutoff.
 ghost use Rattle.std.specs.Prelude.{◌≡◌, ◌≤◌, IsTrue, IsSomeAnd, Some};
 ghost use Rattle.objective.specs.declared.Outcome.{Outcome};
-ghost use Rattle.outside.specs.declared.runs.Key.{Key};
+ghost use Rattle.wrapper_lines.specs.declared.runs.Key.{Key};
 ghost use Rattle.ils_face.specs.Replies;
 ghost use Rattle.ils_face.specs.Steady.{IsAsk, IsEvaluation};
 ghost use Rattle.ils_face.specs.Traces.{question_of, IsReplyBy, IsUnknown};
 ghost use Rattle.tuner.specs.Evaluations.{sums_of};
-ghost use Rattle.tuner.specs.AskEnds.{bound_of, question, IsFailure, IfReply, OnEnd, OnAbort, IfFault};
+ghost use Rattle.tuner.specs.AskEnds.{bound_of, question, IsFailure, IsAbort, IfReply, OnEnd, IfAbort, IfFault};
 
+use crate::cell::{Cell, cell_at};
 use crate::evaluation::{Evaluated, evaluate};
 use crate::problem::Problem;
 use ils_face::{Ask, Reply};
@@ -24,15 +25,15 @@ pub(crate) enum Met {
     Reply(Reply),
     /// It asks for nothing: the search has ended.
     End,
-    /// A child asked for the end of the tuning.
-    Aborted,
-    /// The child of this configuration at this place, from 1, couldn't be started or
-    /// looked at.
+    /// The child of this cell asked for the end of the tuning.
+    Aborted {
+        /// The cell.
+        cell: Cell,
+    },
+    /// The child of this cell couldn't be started or looked at.
     Failed {
-        /// The configuration.
-        config: Config,
-        /// The place.
-        place: u32,
+        /// The cell.
+        cell: Cell,
     },
     /// There is no memory left.
     Memory,
@@ -71,15 +72,19 @@ fn meet_question<R: Wait, S: Spawner>(
     ensures counts { (S.told spawner.old).faults ≤ (S.told spawner.new).faults }
     ensures fits { IfReply result (λ r. Replies.Fits (Replies.ask_of config.now n (bound_of bound)) r) }
     ensures reply { IfReply result (λ r. (outcome : Key → Outcome) → S.truth ≡ Some outcome → IsReplyBy (sums_of problem.now outcome) r (question config.now n bound)) }
-    ensures aborted { OnAbort result ((outcome : Key → Outcome) → S.truth ≡ Some outcome → IsUnknown (sums_of problem.now outcome) (question config.now n bound)) }
-    ensures failed { IfFault result (λ θ place. IsFailure problem.now (S.told spawner.old) (S.told spawner.new) θ place) }
+    ensures aborted { IfAbort result (λ cell. IsAbort problem.now S.truth cell) }
+    ensures unknown { IfAbort result (λ cell. (outcome : Key → Outcome) → S.truth ≡ Some outcome → IsUnknown (sums_of problem.now outcome) (question config.now n bound)) }
+    ensures failed { IfFault result (λ cell. IsFailure problem.now (S.told spawner.old) (S.told spawner.new) cell) }
     ensures unended { OnEnd result ⊥ }
 {
     match evaluate(rt, alloc, problem, config, n, spawner) {
         Evaluated::Sum(sum) => Met::Reply(reply_up_to(sum, bound)),
-        Evaluated::Aborted => Met::Aborted,
-        Evaluated::Failed { place } => match config.copy() {
-            Ok(config) => Met::Failed { config, place },
+        Evaluated::Aborted { place } => match cell_at(config, place) {
+            Ok(cell) => Met::Aborted { cell },
+            Err(_) => Met::Memory,
+        },
+        Evaluated::Failed { place } => match cell_at(config, place) {
+            Ok(cell) => Met::Failed { cell },
             Err(_) => Met::Memory,
         },
         Evaluated::Memory => Met::Memory,
@@ -101,8 +106,9 @@ pub(crate) fn meet<R: Wait, S: Spawner>(
     ensures fits { IfReply result (λ r. Replies.Fits ask.now r) }
     ensures reply { IfReply result (λ r. (outcome : Key → Outcome) → S.truth ≡ Some outcome → IsSomeAnd (question_of ask.now) (IsReplyBy (sums_of problem.now outcome) r)) }
     ensures end { OnEnd result (ask.now ≡ Ask.End) }
-    ensures aborted { OnAbort result ((outcome : Key → Outcome) → S.truth ≡ Some outcome → IsSomeAnd (question_of ask.now) (IsUnknown (sums_of problem.now outcome))) }
-    ensures failed { IfFault result (λ θ place. IsFailure problem.now (S.told spawner.old) (S.told spawner.new) θ place) }
+    ensures aborted { IfAbort result (λ cell. IsAbort problem.now S.truth cell) }
+    ensures unknown { IfAbort result (λ cell. (outcome : Key → Outcome) → S.truth ≡ Some outcome → IsSomeAnd (question_of ask.now) (IsUnknown (sums_of problem.now outcome))) }
+    ensures failed { IfFault result (λ cell. IsFailure problem.now (S.told spawner.old) (S.told spawner.new) cell) }
 {
     match ask {
         Ask::Full { config, n } => meet_question(rt, alloc, problem, config, *n, None, spawner),

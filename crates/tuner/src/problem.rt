@@ -8,12 +8,12 @@ ghost use Rattle.tuner.specs.ProblemRuns;
 use ils_face::Rules;
 use instance_pairs::Pairs;
 use objective::Memory;
-use outside::{Key, Program, Run, Setting};
 use param_space::{Config, Space};
 use plain_text::{Items, Text};
 use scenario_files::Approach;
 use std::alloc::Global;
 use std::marker::Model;
+use wrapper_lines::{Key, Program, Run, Setting};
 
 /// A program, how its settings are compared, the rules of their search, and the pairs that
 /// they are run on. Its type keeps that rules and pairs have the same number of runs.

@@ -4,13 +4,14 @@ ghost use Rattle.std.specs.Bool.{MatchBool};
 ghost use Rattle.objective.specs.Costs.{seen, IsWithin};
 ghost use Rattle.objective.specs.declared.Outcome.{Outcome};
 ghost use Rattle.outside.specs.Counts.{Rose};
-ghost use Rattle.outside.specs.declared.runs.Key.{Key};
+ghost use Rattle.wrapper_lines.specs.declared.runs.Key.{Key};
 ghost use Rattle.tuner.specs.RunEnds.{IfAnswer, OnFailed};
 
 use objective::Answer;
-use outside::{Fault, Poll, Program, Run, Spawner, answer_of, words_of};
+use outside::{Fault, Poll, Spawner};
 use std::alloc::Global;
 use std::sync::Wait;
+use wrapper_lines::{Program, Run, answer_of, words_of};
 
 /// How a run ends.
 #[derive(Clone, Copy, Debug)]

@@ -1,18 +1,18 @@
 //! A search whose asks are met one after another.
 ghost use Rattle.std.specs.Prelude.{◌≡◌, ◌≤◌, [], IsTrue, Some};
 ghost use Rattle.objective.specs.declared.Outcome.{Outcome};
-ghost use Rattle.outside.specs.declared.runs.Key.{Key};
-ghost use Rattle.uncapped.specs.Procedure.{Aborted};
-ghost use Rattle.ils_face.specs.Traces.{IsFinal};
-ghost use Rattle.tuner.specs.AskEnds.{IsFailure};
+ghost use Rattle.wrapper_lines.specs.declared.runs.Key.{Key};
+ghost use Rattle.ils_face.specs.Traces.{IsFinal, IsStopped, IsTraced};
+ghost use Rattle.tuner.specs.AskEnds.{IsFailure, IsAbort};
+ghost use Rattle.tuner.specs.Evaluations.{sums_of};
 ghost use Rattle.tuner.specs.ProblemRuns.{table_of};
-ghost use Rattle.tuner.specs.SearchEnds.{IsSearched, OnEnded, OnSearchAborted, IfSearchFailed};
+ghost use Rattle.tuner.specs.SearchEnds.{IsSearched, OnEnded, IfSearchAborted, IfSearchFailed};
 
+use crate::cell::Cell;
 use crate::meeting::{Met, meet};
 use crate::problem::Problem;
 use ils_face::Search;
 use outside::Spawner;
-use param_space::Config;
 use std::alloc::Global;
 use std::sync::Wait;
 
@@ -21,15 +21,15 @@ use std::sync::Wait;
 pub(crate) enum Searched {
     /// It asks for nothing more.
     Ended,
-    /// A child asked for the end of the tuning.
-    Aborted,
-    /// The child of this configuration at this place, from 1, couldn't be started or
-    /// looked at.
+    /// The child of this cell asked for the end of the tuning.
+    Aborted {
+        /// The cell.
+        cell: Cell,
+    },
+    /// The child of this cell couldn't be started or looked at.
     Failed {
-        /// The configuration.
-        config: Config,
-        /// The place.
-        place: u32,
+        /// The cell.
+        cell: Cell,
     },
     /// There is no memory left.
     Memory,
@@ -51,8 +51,10 @@ pub(crate) fn meet_all<R: Wait, P: Search, S: Spawner>(
     ensures rules { P.rules_of search.new ≡ problem.now.rules }
     ensures searched { OnEnded result (let view = P.shown problem.now.rules (P.replies_of search.new) in IsSearched problem.now.rules view.entries view.last) }
     ensures ended { OnEnded result ((outcome : Key → Outcome) → S.truth ≡ Some outcome → IsFinal (P.shown problem.now.rules (P.replies_of search.new)) (P.plain problem.now.rules (table_of (Some outcome) problem.now))) }
-    ensures aborted { OnSearchAborted result ((outcome : Key → Outcome) → S.truth ≡ Some outcome → (P.plain problem.now.rules (table_of (Some outcome) problem.now)).end ≡ Aborted) }
-    ensures failed { IfSearchFailed result (λ θ place. IsFailure problem.now (S.told spawner.old) (S.told spawner.new) θ place) }
+    ensures traced { (outcome : Key → Outcome) → S.truth ≡ Some outcome → IsTraced (sums_of problem.now outcome) (P.plain problem.now.rules (table_of (Some outcome) problem.now)) (P.replies_of search.new) }
+    ensures aborted { IfSearchAborted result (λ cell. IsAbort problem.now S.truth cell) }
+    ensures stopped { IfSearchAborted result (λ cell. (outcome : Key → Outcome) → S.truth ≡ Some outcome → IsStopped (P.shown problem.now.rules (P.replies_of search.new)) (P.plain problem.now.rules (table_of (Some outcome) problem.now))) }
+    ensures failed { IfSearchFailed result (λ cell. IsFailure problem.now (S.told spawner.old) (S.told spawner.new) cell) }
 {
     loop {
         match meet(rt, alloc, problem, search.ask(), spawner) {
@@ -62,8 +64,8 @@ pub(crate) fn meet_all<R: Wait, P: Search, S: Spawner>(
                 }
             }
             Met::End => return Searched::Ended,
-            Met::Aborted => return Searched::Aborted,
-            Met::Failed { config, place } => return Searched::Failed { config, place },
+            Met::Aborted { cell } => return Searched::Aborted { cell },
+            Met::Failed { cell } => return Searched::Failed { cell },
             Met::Memory => return Searched::Memory,
         }
     }

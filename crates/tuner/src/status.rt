@@ -2,6 +2,7 @@
 ghost use Rattle.std.specs.Prelude.{◌≡◌};
 ghost use Rattle.tuner.specs.ExitCodes.{code_of};
 
+use crate::cell::Cell;
 use instance_pairs::InstanceWhat;
 use param_files::ParamWhat;
 use scenario_files::ScenarioWhat;
@@ -29,7 +30,7 @@ pub enum What {
 }
 
 /// How a tuning ends.
-#[derive(Clone, Copy, Debug, PartialEq, Eq)]
+#[derive(Drop, PartialEq, Eq)]
 pub enum Status {
     /// All comparisons that the budget allows were made.
     Ok,
@@ -55,6 +56,11 @@ pub enum Status {
     },
     /// A write failed, or took nothing of a piece that isn't empty.
     WriteFault,
+    /// A child asked for the end of the tuning.
+    Aborted {
+        /// The configuration and the place of its run.
+        cell: Cell,
+    },
     /// A child couldn't be started or looked at.
     ChildFault {
         /// The number of the seat that was to run it, from 0.
@@ -69,7 +75,7 @@ pub enum Status {
         /// The seats that there are.
         given: u32,
     },
-    /// What is asked for isn't built so far: FocusedILS, or the end that a child asks for.
+    /// What is asked for isn't built so far: FocusedILS.
     Unbuilt,
 }
 
@@ -84,6 +90,7 @@ impl Status {
             Status::BadFile { .. } => 3,
             Status::ReadFault { .. } => 4,
             Status::WriteFault => 5,
+            Status::Aborted { .. } => 6,
             Status::ChildFault { .. } => 7,
             Status::NoMemory => 8,
             Status::TooFewSeats { .. } => 9,

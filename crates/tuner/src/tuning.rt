@@ -7,7 +7,7 @@ ghost use Rattle.tuner.specs.Calls.{Call, call_of};
 ghost use Rattle.tuner.specs.Causes.{HasCause};
 ghost use Rattle.tuner.specs.Lines;
 ghost use Rattle.tuner.specs.PrintedTexts.{Ending, Reported};
-ghost use Rattle.tuner.specs.Promises.{Conducted, Headline, IsAbout, IsComplete, RefusesFaulty, RefusesFocused, RefusesMisused, RefusesUnseated};
+ghost use Rattle.tuner.specs.Promises.{AbortSentence, Conducted, Headline, IsAbout, IsComplete, PrintsFirst, RefusesFaulty, RefusesFocused, RefusesMisused, RefusesUnseated};
 ghost use Rattle.tuner.specs.Refusals.{ReportsMisuse, ReportsRefusal};
 
 use crate::finishing::run_search;
@@ -167,6 +167,11 @@ pub fn tune<R: Wait, F: Files, O: Sink, S: Spawner + Send>(
 
     // Where files and seats work and nothing aborts, the answer is Ok, NoMemory or WriteFault.
     ensures complete { IsComplete words.now (F.told files.old) (F.told files.new) S.truth seats.old seats.new result }
+
+    // Where outcomes may abort: what was printed with Ok and with Aborted, and the entries
+    // that were printed whatever the answer is.
+    ensures aborts { AbortSentence words.now (F.told files.old) S.truth (O.told out.old) (O.told out.new) result }
+    ensures first_entries { PrintsFirst words.now (F.told files.old) S.truth (O.told out.old) (O.told out.new) }
 
     // What the output holds after each answer, also where it couldn't be written whole.
     ensures ending { Ending words.now (F.told files.old) S.truth seats.new (O.told out.old) (O.told out.new) result }

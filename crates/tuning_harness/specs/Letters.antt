@@ -2,8 +2,8 @@
 use Rattle.std.specs.Prelude.{ℕ, Bool, false, ◌+◌, ◌-◌, ◌*◌, ◌==◌, ◌||◌, List, [], ◌∷◌, bytes_eq, codes, slice_index_or, if◌then◌else◌}
 use Rattle.objective.specs.declared.Outcome.{Outcome}
 use Rattle.objective.specs.declared.Outcome.TheVariants.{Solved, Unsolved, Crashed, Abort}
-use Rattle.outside.specs.declared.runs.Key.{Key}
-use Rattle.outside.specs.declared.runs.Setting.{Setting}
+use Rattle.wrapper_lines.specs.declared.runs.Key.{Key}
+use Rattle.wrapper_lines.specs.declared.runs.Setting.{Setting}
 
 -- the first setting has this value
 abbrev pub has : List ℕ → List Setting → Bool

@@ -4,7 +4,8 @@ ghost use Rattle.std.specs.Prelude.{◌≡◌, slice_index_or};
 ghost use Rattle.tuning_harness.specs.Letters;
 
 use objective::{Micros, Outcome};
-use outside::{Key, Setting, Table};
+use outside::Table;
+use wrapper_lines::{Key, Setting};
 
 /// Whether the first setting has this value.
 fn has(settings: &[Setting], value: &str) -> bool

@@ -13,10 +13,11 @@ use crate::reading::refusal::Refusal;
 use ils_face::Rules;
 use instance_pairs::{Instance, Pairs};
 use objective::{Factor, Limits, Memory, Micros};
-use outside::{Files, read_program};
+use outside::Files;
 use param_space::Space;
 use scenario_files::{Overall, Scenario, Words};
 use std::alloc::Global;
+use wrapper_lines::read_program;
 
 /// How many cutoffs a run without a solution costs.
 fn factor_of(overall: Overall) -> Factor

@@ -1,7 +1,8 @@
 use Rattle.std.proofs.Common.{◌≡◌, ◌<◌, ◌^◌, ap, ◌∙◌, arith}
 use Rattle.std.proofs.lemmas.Result.{IfOk-weaker}
 use Rattle.objective.specs.Costs.{seen}
-use Rattle.outside.specs.Results.{answer_of, answer_line}
+use Rattle.wrapper_lines.specs.ResultLines.{answer_of}
+use Rattle.outside.specs.AnswerLines.{answer_line}
 use Rattle.outside.proofs.AnswerLines.{answer_of-seen}
 use Rattle.outside.proofs.table_seat.told_output.Goals as goal
 

@@ -7,7 +7,7 @@ returns-in-Some-clause-sum g c = λ outcome e.
     cost_of-run c.args.problem.now c.args.config.now c.args.place outcome c.in-Ok.run' c.in-Answer.answer _ _ c.in-Ok.ensures
     (c.in-Answer.ensures.answer outcome e) (ap (λ i. i.rules.limits) c.problem-inside.view_is ∙ ap (λ p. p.rules.limits) c.problem.view_is) c.in-Some.ensures.value
 
-pub returns-in-Answer-clause-aborted : goal.returns-in-Answer-clause-aborted
-returns-in-Answer-clause-aborted g c = λ outcome e.
+pub returns-in-Answer-clause-unsolved : goal.returns-in-Answer-clause-unsolved
+returns-in-Answer-clause-unsolved g c = λ outcome e.
     cost_of-run c.args.problem.now c.args.config.now c.args.place outcome c.in-Ok.run' c.in-Answer.answer _ _ c.in-Ok.ensures
     (c.in-Answer.ensures.answer outcome e) (ap (λ i. i.rules.limits) c.problem-inside.view_is ∙ ap (λ p. p.rules.limits) c.problem.view_is) c.in-None.ensures.value

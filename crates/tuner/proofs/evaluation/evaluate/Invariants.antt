@@ -1,7 +1,7 @@
 use Rattle.std.proofs.Common.{◌≡◌, ◌≤◌, ◌*◌, true, Some}
 use Rattle.objective.specs.Limits.{max_cutoff}
 use Rattle.objective.specs.declared.Outcome.{Outcome}
-use Rattle.outside.specs.declared.runs.Key.{Key}
+use Rattle.wrapper_lines.specs.declared.runs.Key.{Key}
 use Rattle.tuner.specs.Evaluations.{sums_of}
 use Rattle.tuner.proofs.evaluation.evaluate.Given as goal
 

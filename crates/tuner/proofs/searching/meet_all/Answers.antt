@@ -1,6 +1,6 @@
 use Rattle.std.proofs.Common.{Some, arith, ◌∙◌}
 use Rattle.tuner.specs.ProblemRuns.{table_of}
-use Rattle.tuner.proofs.PresentAsks.{present, present_ask, present_searched, present_falls, present_on, present_final, present_abort, traced_none, without_error}
+use Rattle.tuner.proofs.PresentAsks.{present, present_ask, present_searched, present_falls, present_on, present_final, present_stopped, traced_none, without_error}
 use Rattle.tuner.proofs.searching.meet_all.Goals as goal
 
 pub loop-reply-init : goal.loop-reply-init
@@ -47,8 +47,8 @@ returns-in-End-clause-ended g c = λ outcome e.
     (present g.P.Search.shown _ _ _ _ c.loop-reply.invariant.rules c.ask.ensures.ruled c.ask.ensures.fitting c.ask.ensures.value)
     (c.loop-reply.invariant.traced outcome e) c.in-End.ensures.end
 
-pub returns-in-Aborted-clause-aborted : goal.returns-in-Aborted-clause-aborted
-returns-in-Aborted-clause-aborted g c = λ outcome e.
-    present_abort g.P.Search.shown c.args.problem.now.rules _ c.ask.result.now g.P.Search.plain (table_of (Some outcome) c.args.problem.now) g.met.P.Search.follows
+pub returns-in-Aborted-clause-stopped : goal.returns-in-Aborted-clause-stopped
+returns-in-Aborted-clause-stopped g c = λ outcome e.
+    present_stopped g.P.Search.shown c.args.problem.now.rules _ c.ask.result.now g.P.Search.plain (table_of (Some outcome) c.args.problem.now) g.met.P.Search.follows
     (present g.P.Search.shown _ _ _ _ c.loop-reply.invariant.rules c.ask.ensures.ruled c.ask.ensures.fitting c.ask.ensures.value)
-    (c.loop-reply.invariant.traced outcome e) (c.in-Aborted.ensures.aborted outcome e)
+    (c.loop-reply.invariant.traced outcome e) (c.in-Aborted.ensures.unknown outcome e)

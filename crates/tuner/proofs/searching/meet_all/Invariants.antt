@@ -1,7 +1,7 @@
 use Rattle.std.proofs.Common.{◌≡◌, ◌≤◌, true, Some}
 use Rattle.objective.specs.declared.Outcome.{Outcome}
-use Rattle.outside.specs.declared.runs.Key.{Key}
-use Rattle.ils_face.proofs.Traces.{IsTraced}
+use Rattle.wrapper_lines.specs.declared.runs.Key.{Key}
+use Rattle.ils_face.specs.Traces.{IsTraced}
 use Rattle.tuner.specs.Evaluations.{sums_of}
 use Rattle.tuner.specs.ProblemRuns.{table_of}
 use Rattle.tuner.proofs.searching.meet_all.Given as goal

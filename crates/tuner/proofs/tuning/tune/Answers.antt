@@ -1,4 +1,4 @@
-use Rattle.tuner.proofs.PromiseLemmas.{cause_of, badly_written, headline_of, ending_of, refuses_misused, refuses_faulty, refuses_unseated, refuses_focused, complete_of}
+use Rattle.tuner.proofs.PromiseLemmas.{cause_of, badly_written, headline_of, abort_sentence_of, prints_first, ending_of, refuses_misused, refuses_faulty, refuses_unseated, refuses_focused, complete_of}
 use Rattle.tuner.proofs.tuning.tune.Goals as goal
 
 pub returns-clause-headline : goal.returns-clause-headline
@@ -27,3 +27,9 @@ returns-clause-complete g c = complete_of _ _ (cause_of _ _ _ _ c.conduct.ensure
 
 pub returns-clause-ending : goal.returns-clause-ending
 returns-clause-ending g c = ending_of _ _ _ _ c.conduct.ensures.ending
+
+pub returns-clause-aborts : goal.returns-clause-aborts
+returns-clause-aborts g c = abort_sentence_of _ _ _ _ c.conduct.ensures.ending
+
+pub returns-clause-first_entries : goal.returns-clause-first_entries
+returns-clause-first_entries g c = prints_first _ _ _ _ c.conduct.ensures.ending
