@@ -189,18 +189,8 @@ fn an_abort_ends_the_call(rt: HostRuntime) {
     // In the opening evaluation, and in the first comparison, at either place of b.
     for (words, instances, started, printed) in &[
         (WORDS, "one x429\n", 1, "aborted 1 x=a\n"),
-        (
-            one,
-            "one 34x1\n",
-            5,
-            "0 2 7.000000 x=a\naborted 1 x=b\n",
-        ),
-        (
-            one,
-            "one 341x\n",
-            6,
-            "0 2 7.000000 x=a\naborted 2 x=b\n",
-        ),
+        (one, "one 34x1\n", 5, "0 2 7.000000 x=a\naborted 1 x=b\n"),
+        (one, "one 341x\n", 6, "0 2 7.000000 x=a\naborted 2 x=b\n"),
     ] {
         let right = is_aborted(&rt, rt.alloc(), words, instances, *started, printed);
         check(&rt, matches!(right, Ok(true)), printed);
