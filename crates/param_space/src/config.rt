@@ -2,6 +2,7 @@
 ghost use Rattle.std.specs.Prelude.{◌≡◌, ◌<◌, length, slice_set, IfOk};
 
 use objective::Memory;
+use std::hash::{Hash, Hasher};
 use std::marker::Model;
 
 /// A configuration: for each parameter the number of its value. Contracts see it as
@@ -17,6 +18,42 @@ impl Model for Config {
     ghost Value = { List ℕ };
 
     ghost view = { λ c. c.values.items };
+}
+
+impl PartialEq for Config {
+    ghost use Rattle.std.specs.Prelude.{nat_eq};
+    ghost use Rattle.std.specs.Cmp.Lexicographic.{pointwise};
+    ghost use Rattle.std.specs.Cmp.Rules.{comparing};
+    ghost use Rattle.std.proofs.Common.{rules};
+
+    ghost eq = { pointwise nat_eq };
+
+    ghost laws = { Prim.search (comparing, rules) };
+
+    fn eq(&self, other: &Config) -> bool {
+        self.values.as_slice() == other.values.as_slice()
+    }
+}
+
+impl Eq for Config {
+    ghost use Rattle.std.specs.Cmp.Rules.{comparing};
+    ghost use Rattle.std.proofs.Common.{rules};
+
+    ghost laws = { Prim.search (comparing, rules) };
+}
+
+impl Hash for Config {
+    ghost use Rattle.std.specs.Hash as fed;
+    ghost use Rattle.std.specs.Cmp.Rules.{hashing};
+    ghost use Rattle.std.proofs.Common.{rules};
+
+    ghost hash_input = { λ c. fed.slice fed.u16 c };
+
+    ghost respects_eq = { Prim.search (hashing, rules) };
+
+    fn hash<H: Hasher>(&self, state: &mut H) {
+        self.values.as_slice().hash(state);
+    }
 }
 
 impl Config {
