@@ -1,0 +1,4 @@
+pub mod Knowledge
+pub mod Learning
+pub mod Caches
+pub mod Runs

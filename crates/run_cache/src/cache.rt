@@ -1,0 +1,164 @@
+//! The cache.
+ghost use Rattle.std.specs.Prelude.{◌≡◌, ◌≢◌, ◌≤◌, ◌-◌, ℕ, List, [], IsTrue, OnOk, OnErr};
+ghost use Rattle.objective.specs.declared.Outcome.{Outcome};
+ghost use Rattle.objective.specs.Costs.{Table, IsWithin, seen};
+ghost use Rattle.objective.specs.Limits.{max_runs};
+ghost use Rattle.run_cache.specs.Knowledge.{Agrees, IsInRange};
+ghost use Rattle.run_cache.specs.Learning.{lesson, learnt as learnt_by};
+ghost use Rattle.run_cache.specs.Caches.{IsCutoff, IsRow, AreRows, AgreesWith, GoesWith, row_of, rows_with, known_at, known_in, known_after, has_place_in, conflicts_after};
+
+use crate::cell::Cell;
+use crate::known::{Known, Learnt};
+use crate::learning::{learnt, lesson_of};
+use crate::row::Row;
+use indexmap::IndexMap;
+use objective::{Answer, Limits, Memory, Micros};
+use param_space::Config;
+use std::alloc::Global;
+use std::marker::Model;
+
+/// What is known of each configuration at each place, under the limits of one tuning.
+///
+/// Its type keeps that each cost is at most the full cutoff or is the penalty, and that each
+/// timeout has a cutoff from 1 to below the full one. A look-up costs the same however much is known.
+#[derive(Drop)]
+pub struct Cache {
+    limits: Limits,
+    conflicts: u64,
+    rows: IndexMap<Config, Row>,
+}
+
+impl Model for Cache {
+    ghost use Rattle.run_cache.specs.Caches.{Cached, AreRows};
+
+    ghost Value = { Cached };
+
+    ghost view = { λ c. record { limits = c.limits; conflicts = c.conflicts; rows = c.rows.entries } };
+
+    ghost invariant = { λ c. AreRows c.limits c.rows.entries };
+}
+
+impl Cache {
+    /// A cache that knows nothing. Takes no memory.
+    pub fn new(alloc: Global, limits: Limits) -> Cache
+        ensures { result ≡ record { limits = limits; conflicts = 0; rows = [] } }
+    {
+        Cache {
+            limits,
+            conflicts: 0,
+            rows: IndexMap::new(alloc),
+        }
+    }
+
+    /// The limits of all runs.
+    pub fn limits(&self) -> &Limits
+        ensures { result.now ≡ self.now.limits }
+    {
+        &self.limits
+    }
+
+    /// The runs whose answers contradicted what was known. It stands still at the greatest number.
+    pub fn conflicts(&self) -> u64
+        ensures { result ≡ self.now.conflicts }
+    {
+        self.conflicts
+    }
+
+    /// What is known of a configuration by place, from place 1 on. Nothing is known past its end.
+    pub fn row(&self, config: &Config) -> &[Known]
+        ensures value { result.now ≡ row_of self.now.rows config.now }
+        ensures in_range { IsRow self.now.limits result.now }
+    {
+        match self.rows.get(config) {
+            Some(row) => row.places(),
+            None => &[],
+        }
+    }
+
+    /// What is known of a configuration at a place.
+    pub fn known_at(&self, config: &Config, place: u32) -> Known
+        ensures value { result ≡ known_in self.now config.now place }
+        ensures in_range { IsInRange self.now.limits result }
+    {
+        if place == 0 {
+            return Known::Nothing;
+        }
+        match self.row(config).get((place - 1) as usize) {
+            Some(known) => *known,
+            None => Known::Nothing,
+        }
+    }
+
+    /// What is known of a cell.
+    pub fn known(&self, cell: &Cell) -> Known
+        ensures value { result ≡ known_in self.now cell.now.config cell.now.place }
+        ensures in_range { IsInRange self.now.limits result }
+    {
+        self.known_at(&cell.config, cell.place)
+    }
+
+    /// Whether there is a place for what is learnt of a cell.
+    pub fn has_place(&self, cell: &Cell) -> bool
+        ensures { result ≡ has_place_in self.now cell.now.config cell.now.place }
+    {
+        0 < cell.place && cell.place as usize <= self.row(&cell.config).len()
+    }
+
+    /// Makes a place for what is learnt of a cell. After want of memory the cache is as it was.
+    pub fn reserve(&mut self, cell: &Cell) -> Result<(), Memory>
+        requires from_one { 1 ≤ cell.now.place }
+        requires most { cell.now.place ≤ max_runs }
+        ensures place { OnOk result (IsTrue (has_place_in self.new cell.now.config cell.now.place)) }
+        ensures places { (config : List ℕ) (place : ℕ) → IsTrue (has_place_in self.old config place) → IsTrue (has_place_in self.new config place) }
+        ensures known { known_in self.new ≡ known_in self.old }
+        ensures limits { self.new.limits ≡ self.old.limits }
+        ensures conflicts { self.new.conflicts ≡ self.old.conflicts }
+        ensures err { OnErr result (self.new ≡ self.old) }
+    {
+        if let Some(row) = self.rows.get_mut(&cell.config) {
+            return row.grow(cell.place);
+        }
+        let config = cell.config.copy()?;
+        let row = Row::with(*self.rows.allocator(), cell.place)?;
+        self.rows.insert(config, row)?;
+        Ok(())
+    }
+
+    /// Puts down what is known of a cell that has a place.
+    fn set(&mut self, cell: &Cell, known: Known)
+        requires place { IsTrue (has_place_in self.old cell.now.config cell.now.place) }
+        requires in_range { IsInRange self.old.limits known }
+        ensures { self.new ≡ record self.old { rows = rows_with self.old.rows cell.now known } }
+    {
+        match self.rows.get_mut(&cell.config) {
+            Some(row) => row.set(cell.place, known),
+            None => unreachable!(),
+        }
+    }
+
+    /// Learns the answer of a run of a cell that has a place, under a cutoff. Takes no memory.
+    pub fn learn(&mut self, cell: &Cell, cutoff: Micros, answer: Answer) -> Learnt
+        requires place { IsTrue (has_place_in self.old cell.now.config cell.now.place) }
+        requires cutoff { IsCutoff self.old.limits cutoff.0 }
+        requires within { IsWithin answer cutoff.0 }
+        ensures answer { let before = known_in self.old cell.now.config cell.now.place in
+            result ≡ learnt_by before (lesson self.old.limits before cutoff.0 answer) }
+        ensures known { let before = known_in self.old cell.now.config cell.now.place in
+            known_in self.new ≡ known_after (known_in self.old) cell.now (lesson self.old.limits before cutoff.0 answer).known }
+        ensures conflicts { let before = known_in self.old cell.now.config cell.now.place in
+            self.new.conflicts ≡ conflicts_after self.old.conflicts (lesson self.old.limits before cutoff.0 answer).conflict }
+        ensures limits { self.new.limits ≡ self.old.limits }
+        ensures places { has_place_in self.new ≡ has_place_in self.old }
+        ensures outcome { (o : Outcome) → Agrees self.old.limits (known_in self.old cell.now.config cell.now.place) o → answer ≡ seen o cutoff.0
+            → GoesWith self.old self.new cell.now o result }
+        ensures table { (T : Table) → AgreesWith T self.old → answer ≡ seen (T cell.now.config cell.now.place) cutoff.0 → AgreesWith T self.new }
+    {
+        let before = self.known(cell);
+        let lesson = lesson_of(&self.limits, before, cutoff, answer);
+        self.set(cell, lesson.known);
+        if lesson.conflict {
+            self.conflicts = self.conflicts.saturating_add(1);
+        }
+        learnt(before, lesson)
+    }
+}

@@ -1,0 +1,56 @@
+//! Cells.
+ghost use Rattle.std.specs.Prelude.{◌≡◌, IfOk};
+
+use objective::Memory;
+use param_space::Config;
+
+/// A configuration at a place.
+#[derive(Drop)]
+pub struct Cell {
+    /// The configuration.
+    pub config: Config,
+    /// The place, from 1.
+    pub place: u32,
+}
+
+impl PartialEq for Cell {
+    ghost use Rattle.std.specs.Prelude.{nat_eq};
+    ghost use Rattle.std.specs.Cmp.Lexicographic.{pointwise};
+    ghost use Rattle.std.specs.Cmp.Rules.{comparing};
+    ghost use Rattle.std.specs.Ordering.{on, eq_of_both};
+    ghost use Rattle.std.proofs.Common.{rules};
+
+    ghost eq = { eq_of_both (on (λ c. c.config) (pointwise nat_eq)) (on (λ c. c.place) nat_eq) };
+
+    ghost laws = { Prim.search (comparing, rules) };
+
+    fn eq(&self, other: &Cell) -> bool {
+        self.config.values() == other.config.values() && self.place == other.place
+    }
+}
+
+impl Eq for Cell {
+    ghost use Rattle.std.specs.Cmp.Rules.{comparing};
+    ghost use Rattle.std.proofs.Common.{rules};
+
+    ghost laws = { Prim.search (comparing, rules) };
+}
+
+impl Cell {
+    /// The cell of a configuration at a place.
+    pub fn at(config: &Config, place: u32) -> Result<Cell, Memory>
+        ensures { IfOk result (λ c. c ≡ record { config = config.now; place = place }) }
+    {
+        Ok(Cell {
+            config: config.copy()?,
+            place,
+        })
+    }
+
+    /// The same cell.
+    pub fn copy(&self) -> Result<Cell, Memory>
+        ensures { IfOk result (λ c. c ≡ self.now) }
+    {
+        Cell::at(&self.config, self.place)
+    }
+}

@@ -1,0 +1,15 @@
+//! What is known of runs: a row for each configuration, with what its runs have shown at each place.
+//!
+//! A run that is cut off below the full cutoff is worth keeping: it says that the configuration takes
+//! longer than that. The cache keeps no outcome twice and counts the runs that contradict each other.
+#![tactic(auto)]
+
+mod cache;
+mod cell;
+mod known;
+mod learning;
+mod row;
+
+pub use cache::Cache;
+pub use cell::Cell;
+pub use known::{Known, Learnt};
