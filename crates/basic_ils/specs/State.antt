@@ -9,7 +9,7 @@ use Rattle.ils_face.specs.Rules.{Rules}
 use Rattle.ils_face.specs.Trajectories.{newest, IsTrajectory}
 use Rattle.ils_face.specs.declared.asks.Reply.{Reply}
 use Rattle.ils_face.specs.declared.asks.Reply.TheVariants.{Exact, Exceeds}
-use Rattle.ils_frame.specs.Comparers.{Phase, Ready, Asking, Decided, Parts}
+use Rattle.ils_frame.specs.Comparers.{Phase, Ready, Asking, Decided, Parts, AreCostsKnown}
 
 -- how far a comparison is
 pub data Place : Type 0 where
@@ -221,4 +221,5 @@ StandsAt n start sums last (Compared won) s = IsKnown n sums last s
 pub record Stands (start : Settings) (sums : Sums) (c : State) (s : PlainState) : Type 0 where
   pub incumbent : s.incumbent ≡ c.last.config
   pub compared : s.compared ≡ c.last.compared
+  pub known : AreCostsKnown sums s
   pub place : StandsAt c.max_runs start sums c.last c.place s

@@ -149,6 +149,7 @@ impl Comparer for Basic {
     ghost use Rattle.basic_ils.specs.Laws.KeepsLaw.{rules_keep};
     ghost use Rattle.param_space.specs.Configurations.{IsConfig};
     ghost use Rattle.param_space.specs.Space.{defaults};
+    ghost use Rattle.ils_face.specs.Setups.{setup_of};
     ghost use Rattle.uncapped.specs.Evaluation.{better_basic};
     ghost use Rattle.uncapped.specs.Uncapped.{opening_basic};
 
@@ -160,11 +161,11 @@ impl Comparer for Basic {
 
     ghost stands = { λ rules. Stands (defaults rules.space.params) };
 
-    ghost opening = { opening_basic };
+    ghost opening = { λ rules. opening_basic (setup_of rules) };
 
-    ghost better = { better_basic };
+    ghost better = { λ rules. better_basic (setup_of rules) };
 
-    ghost coming = { coming_in };
+    ghost coming = { λ rules. coming_in (setup_of rules) };
 
     fn open(alloc: Global, rules: &Rules) -> Result<Basic, Memory> {
         let incumbent = rules.space.default_config()?;

@@ -1,3 +1,4 @@
+pub mod CountedCosts
 mod PerturbationSteps
 mod UpcomingLemmas
 mod MachineBegin

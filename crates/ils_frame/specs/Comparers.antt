@@ -134,6 +134,10 @@ pub record Starts {S : Type 0} (parts : Parts S) (stands : S → PlainState → 
   pub same : better θ φ (record s { compared = m }) ≡ coming (parts.begun c θ φ m) (parts.started c θ φ m s)
   pub unasked : Unasked s (parts.started c θ φ m s)
 
+-- the total cost of each configuration over the places that count as run is known
+abbrev pub AreCostsKnown : Sums → PlainState → Type 0
+AreCostsKnown sums s = (θ : Settings) → IsSome (sums θ (s.counts θ))
+
 -- the state that the comparer stands for before anything is answered
 abbrev pub opened_state : {S : Type 0} → Parts S → Setup → S → PlainState
 opened_state parts setup first = record (at_first setup) { entries = additions_after 0 (parts.entries first) }
@@ -146,5 +150,6 @@ pub record Keeps {S : Type 0} (parts : Parts S) (fit : S → Type 0) (stands : S
   pub answered : (c : S) (s : PlainState) (q : Question) (x : ℕ) → fit c → stands c s → parts.phase c ≡ Asking q → cost_asked sums q ≡ Some x → GoesOn parts stands coming c s q (reply_up_to x q.bound)
   pub aborts : (c : S) (s : PlainState) (q : Question) → fit c → stands c s → parts.phase c ≡ Asking q → cost_asked sums q ≡ None → coming c s ≡ Ends (after_ask q.config q.places q.bound s) Aborted
   pub begins : (c : S) (s : PlainState) (θ φ : Settings) (m : ℕ) → fit c → stands c s → question_in (parts.phase c) ≡ None → Starts parts stands coming better c θ φ m s
+  pub known : (c : S) (s : PlainState) → fit c → stands c s → AreCostsKnown sums s
   pub ended : (c : S) (s : PlainState) (b : Bool) → decision_in (parts.phase c) ≡ Some b → coming c s ≡ Goes s b
   pub last : (c : S) (s : PlainState) → fit c → stands c s → parts.last c ≡ last_of sums s

@@ -1,10 +1,10 @@
 //! What every comparer promises.
-ghost use Rattle.std.specs.Prelude.{◌≡◌, ◌≤◌, List, Bool, true, None, IfOk, OnOk, OnErr, IsSome};
+ghost use Rattle.std.specs.Prelude.{◌≡◌, ◌≤◌, ◌<◌, List, Bool, true, None, IfOk, OnOk, OnErr, IsSome};
 ghost use Rattle.objective.specs.Costs.{Table};
+ghost use Rattle.objective.specs.Limits;
 ghost use Rattle.param_space.specs.Configurations.{IsConfig};
 ghost use Rattle.param_space.specs.Space.{defaults};
 ghost use Rattle.uncapped.specs.Procedure.{Settings, Sums, PlainState, Procedure};
-ghost use Rattle.uncapped.specs.Setup.{Setup};
 ghost use Rattle.ils_face.specs.Replies.{Fits, ask_for};
 ghost use Rattle.ils_face.specs.Rules.{AreRules};
 ghost use Rattle.ils_face.specs.Follows.{sums_under};
@@ -35,13 +35,13 @@ pub trait Comparer: Sized + Drop {
     ghost stands: { Rules → Sums → Self → PlainState → Type 0 };
 
     /// The opening evaluation of the procedure.
-    ghost opening: { Setup → Sums → Procedure (Unit {0}) };
+    ghost opening: { Rules → Sums → Procedure (Unit {0}) };
 
     /// The comparison of the procedure.
-    ghost better: { Setup → Sums → Settings → Settings → Procedure Bool };
+    ghost better: { Rules → Sums → Settings → Settings → Procedure Bool };
 
     /// What is to come of the opening evaluation or of the comparison.
-    ghost coming: { Setup → Sums → Self → Procedure Bool };
+    ghost coming: { Rules → Sums → Self → Procedure Bool };
 
     /// A comparer with its opening evaluation to make, where it has one.
     fn open(alloc: Global, rules: &Rules) -> Result<Self, Memory>
@@ -67,9 +67,12 @@ pub trait Comparer: Sized + Drop {
         ensures ok { OnOk result (self.new ≡ parts.after self.old reply) }
         ensures err { OnErr result (self.new ≡ self.old) };
 
-    /// Begins a comparison, of this number from 1. Takes no memory.
+    /// Begins a comparison of this number, which is greater than the last one's and at most
+    /// `MAX_COMPARISONS`. Takes no memory.
     fn begin(&mut self, first: Config, second: Config, compared: u32)
-        requires { question_in (parts.phase self.old) ≡ None }
+        requires ready { question_in (parts.phase self.old) ≡ None }
+        requires later { (parts.last self.old).compared < compared }
+        requires within { compared ≤ Limits.max_comparisons }
         ensures { self.new ≡ parts.begun self.old first second compared };
 
     /// The same comparer.
@@ -100,5 +103,5 @@ pub trait Comparer: Sized + Drop {
     ghost steady: { (rules : Rules) → AreRules rules → IsSteadyComparer parts (fit rules) rules.max_runs (IsConfig rules.space) (defaults rules.space.params) (at_open rules) };
 
     /// With the replies of a table it does what the procedure does.
-    ghost keeps: { (rules : Rules) (T : Table) → AreRules rules → Keeps parts (fit rules) (stands rules (sums_under rules T)) (coming (setup_of rules) (sums_under rules T)) (better (setup_of rules) (sums_under rules T)) (opening (setup_of rules) (sums_under rules T)) (setup_of rules) (sums_under rules T) (at_open rules) };
+    ghost keeps: { (rules : Rules) (T : Table) → AreRules rules → Keeps parts (fit rules) (stands rules (sums_under rules T)) (coming rules (sums_under rules T)) (better rules (sums_under rules T)) (opening rules (sums_under rules T)) (setup_of rules) (sums_under rules T) (at_open rules) };
 }

@@ -55,15 +55,15 @@ impl<C: Comparer> Search for Ils<C> {
 
     ghost shown = { λ rules replies. shown_after C.parts (C.at_open rules) rules replies };
 
-    ghost plain = { λ rules T. run_after (sums_under rules T) (search_after (setup_of rules) (C.better (setup_of rules) (sums_under rules T)) (C.opening (setup_of rules) (sums_under rules T)) (at_first (setup_of rules))) };
+    ghost plain = { λ rules T. run_after (sums_under rules T) (search_after (setup_of rules) (C.better rules (sums_under rules T)) (C.opening rules (sums_under rules T)) (at_first (setup_of rules))) };
 
     ghost steady = { λ rules are. laws_steady C.parts (C.at_open rules) rules are (C.fit rules) (C.steady rules are) };
 
-    ghost follows = { λ rules T are. laws_follow C.parts (C.at_open rules) rules are (C.fit rules) (C.steady rules are) (C.stands rules (sums_under rules T)) (C.coming (setup_of rules) (sums_under rules T)) (C.better (setup_of rules) (sums_under rules T)) (C.opening (setup_of rules) (sums_under rules T)) T (C.keeps rules T are) };
+    ghost follows = { λ rules T are. laws_follow C.parts (C.at_open rules) rules are (C.fit rules) (C.steady rules are) (C.stands rules (sums_under rules T)) (C.coming rules (sums_under rules T)) (C.better rules (sums_under rules T)) (C.opening rules (sums_under rules T)) T (C.keeps rules T are) };
 
-    ghost finishes = { λ rules T are. laws_finish C.parts (C.at_open rules) rules are (C.fit rules) (C.steady rules are) (C.stands rules (sums_under rules (quiet T))) (C.coming (setup_of rules) (sums_under rules (quiet T))) (C.better (setup_of rules) (sums_under rules (quiet T))) (C.opening (setup_of rules) (sums_under rules (quiet T))) T (C.keeps rules (quiet T) are) };
+    ghost finishes = { λ rules T are. laws_finish C.parts (C.at_open rules) rules are (C.fit rules) (C.steady rules are) (C.stands rules (sums_under rules (quiet T))) (C.coming rules (sums_under rules (quiet T))) (C.better rules (sums_under rules (quiet T))) (C.opening rules (sums_under rules (quiet T))) T (C.keeps rules (quiet T) are) };
 
-    ghost aborts = { λ rules T are. laws_abort C.parts (C.at_open rules) rules are (C.fit rules) (C.steady rules are) (C.stands rules) (C.coming (setup_of rules)) (C.better (setup_of rules)) (C.opening (setup_of rules)) T (λ T. C.keeps rules T are) };
+    ghost aborts = { λ rules T are. laws_abort C.parts (C.at_open rules) rules are (C.fit rules) (C.steady rules are) (C.stands rules) (C.coming rules) (C.better rules) (C.opening rules) T (λ T. C.keeps rules T are) };
 
     fn open(alloc: Global, rules: &Rules) -> Result<Ils<C>, Memory> {
         let kept = rules.copy()?;

@@ -42,7 +42,7 @@ fn config(alloc: Global, value: u16) -> Result<Config, Memory> {
 /// Begins the comparison of a and b; whether it may begin.
 fn begun<C: Comparer>(alloc: Global, comparer: &mut C) -> Result<bool, Memory> {
     let (first, second) = (config(alloc, 0)?, config(alloc, 1)?);
-    if comparer.stage() != Stage::Ready {
+    if comparer.stage() != Stage::Ready || comparer.compared() > 0 {
         return Ok(false);
     }
     comparer.begin(first, second, 1);

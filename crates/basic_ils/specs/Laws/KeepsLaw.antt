@@ -19,7 +19,8 @@ use Rattle.ils_face.specs.Follows.{sums_under}
 use Rattle.ils_face.specs.Replies.{reply_up_to, cost_asked}
 use Rattle.ils_face.specs.declared.asks.Reply.{Reply}
 use Rattle.ils_face.specs.declared.asks.Reply.TheVariants.{Exact, Exceeds}
-use Rattle.ils_frame.specs.Comparers.{question_in, decision_in, Advanced, GoesOn, Keeps}
+use Rattle.ils_frame.specs.Comparers.{question_in, decision_in, Advanced, GoesOn, AreCostsKnown, Keeps}
+use Rattle.ils_frame.proofs.CountedCosts.{counts_after-known}
 use Rattle.basic_ils.specs.State.{Place, Opening, Opened, Second, First, Compared, State, phase_at, is_better, entry, entry_where, last_after, after_evaluation, win_where, coming_at, coming_in, basic_parts, first_state, IsFit, IsFresh, IsKnown, Stands, StandsAt}
 use Rattle.basic_ils.specs.Laws.SteadyLaw.{at_question}
 use Rattle.basic_ils.specs.Laws.Evaluations.{counts_after-most, counts_after-top, counts_after-itself, evaluate-known, evaluate-unknown}
@@ -37,6 +38,12 @@ module _ (n : ℕ) (sums : Sums) (last : Incumbent) (s : PlainState) where
       → IsKnown n sums (last_after last (entry_where b (entry n last θ x))) (win_where b θ n x (after_evaluation θ n bound s))
   known_after true θ bound x k e = record { most = λ φ. counts_after-most s.counts θ n φ (k.most θ) (k.most φ); top = counts_after-itself s.counts θ n (k.most θ); runs = refl; sum = e }
   known_after false θ bound x k e = record { most = λ φ. counts_after-most s.counts θ n φ (k.most θ) (k.most φ); top = counts_after-top s.counts θ n s.incumbent (k.most θ) k.top; runs = k.runs; sum = k.sum }
+
+  -- and the total costs at all counts known
+  costs_known : (b : Bool) (θ : Settings) (bound : Option ℕ) (x : ℕ) → AreCostsKnown sums s → sums θ n ≡ Some x
+      → AreCostsKnown sums (win_where b θ n x (after_evaluation θ n bound s))
+  costs_known true θ bound x k e = counts_after-known sums s.counts θ n k (rw e refl)
+  costs_known false θ bound x k e = counts_after-known sums s.counts θ n k (rw e refl)
 
   -- the incumbent costs no more than what was evaluated
   at_most_after : (θ : Settings) (x : ℕ) → s.incumbent ≡ last.config → IsKnown n sums last s → sums θ n ≡ Some x
@@ -116,7 +123,8 @@ module _ (setup : Setup) (sums : Sums) (start : Settings) (b : setup.start ≡ s
   abbrev GoesOnBy : State → PlainState → Question → Reply → Type 0
   GoesOnBy c s q r = GoesOn basic_parts (Stands start sums) (coming_in setup sums) c s q r
 
-  module _ (n : ℕ) (m : setup.max_runs ≡ n) (last : Incumbent) (entries : List Incumbent) (s : PlainState) (i : s.incumbent ≡ last.config) (c : s.compared ≡ last.compared) where
+  module _ (n : ℕ) (m : setup.max_runs ≡ n) (last : Incumbent) (entries : List Incumbent) (s : PlainState) (i : s.incumbent ≡ last.config) (c : s.compared ≡ last.compared)
+      (v : AreCostsKnown sums s) where
     abbrev at_place : Place → State
     at_place place = record { max_runs = n; last = last; place = place; entries = entries }
 
@@ -128,6 +136,7 @@ module _ (setup : Setup) (sums : Sums) (start : Settings) (b : setup.start ≡ s
           stays = record {
             incumbent = i;
             compared = c;
+            known = costs_known n sums last s false last.config None x v e;
             place = record {
               most = λ φ. counts_after-most s.counts last.config n φ (few last.config) (few φ);
               top = rw i (counts_after-itself s.counts last.config n (few last.config));
@@ -145,6 +154,7 @@ module _ (setup : Setup) (sums : Sums) (start : Settings) (b : setup.start ≡ s
       stays = record {
         incumbent = incumbent_after (is_better last second x) second n x None last s i;
         compared = compared_after (is_better last second x) second n x None last s c;
+        known = costs_known n sums last s (is_better last second x) second None x v e;
         place = (known_after n sums last s (is_better last second x) second None x k e, at_most_after n sums last s second x i k e);
       };
       same = second_goes setup sums n m last s first second x i k e;
@@ -157,13 +167,19 @@ module _ (setup : Setup) (sums : Sums) (start : Settings) (b : setup.start ≡ s
       stays = record {
         incumbent = incumbent_after (is_better last first x) first n x (Some bound) last s i;
         compared = compared_after (is_better last first x) first n x (Some bound) last s c;
+        known = costs_known n sums last s (is_better last first x) first (Some bound) x v e;
         place = known_after n sums last s (is_better last first x) first (Some bound) x k e;
       };
       same = first_goes setup sums n m last s first bound x true i k e t;
       advanced = advanced_by (is_better last first x) first n x (Some bound) last s c;
     }
     first_replied first bound k h x e false t = record {
-      stays = record { incumbent = i; compared = c; place = known_after n sums last s false first (Some bound) x k e };
+      stays = record {
+        incumbent = i;
+        compared = c;
+        known = costs_known n sums last s false first (Some bound) x v e;
+        place = known_after n sums last s false first (Some bound) x k e;
+      };
       same = first_goes setup sums n m last s first bound x false i k e t
           ∙ ap (λ b. Goes (win_where b first n x (after_evaluation first n (Some bound) s)) false) (not_better last first bound x h t);
       advanced = advanced_by false first n x (Some bound) last s c;
@@ -242,18 +258,19 @@ pub basic_keeps : (n : ℕ) (allowed : Settings → Type 0) (start : Settings) (
     → Keeps basic_parts (IsFit n allowed) (Stands start sums) (coming_in setup sums) (better_basic setup sums) (opening_basic setup sums) setup sums
     (record { max_runs = n; last = record { compared = 0; runs = 0; sum = 0; config = start }; place = Opening; entries = [] })
 basic_keeps n allowed start setup sums m b zero = record {
-  opened = record { incumbent = b; compared = refl; place = record { counts = λ φ. refl; config = refl; runs = refl; sum = refl } };
+  opened = record { incumbent = b; compared = refl; known = λ φ. rw (zero φ) refl; place = record { counts = λ φ. refl; config = refl; runs = refl; sum = refl } };
   opens = refl;
-  redrawn = λ c s e k. record { incumbent = k.incumbent; compared = k.compared; place = redrawn_at c.max_runs sums start c.last c.place s e k.place };
-  answered = λ c s q x f k a e. at_question (basic_parts.phase c) (Replied setup sums start b c.max_runs (m ∙ sym f.runs) c.last c.entries s k.incumbent k.compared c.place)
-      (replied_by setup sums start b c.max_runs (m ∙ sym f.runs) c.last c.entries s k.incumbent k.compared c.place k.place) q a x e;
-  aborts = λ c s q f k a e. at_question (basic_parts.phase c) (Aborts setup sums start b c.max_runs (m ∙ sym f.runs) c.last c.entries s k.incumbent k.compared c.place)
-      (aborts_by setup sums start b c.max_runs (m ∙ sym f.runs) c.last c.entries s k.incumbent k.compared c.place k.place) q a e;
+  redrawn = λ c s e k. record { incumbent = k.incumbent; compared = k.compared; known = k.known; place = redrawn_at c.max_runs sums start c.last c.place s e k.place };
+  answered = λ c s q x f k a e. at_question (basic_parts.phase c) (Replied setup sums start b c.max_runs (m ∙ sym f.runs) c.last c.entries s k.incumbent k.compared k.known c.place)
+      (replied_by setup sums start b c.max_runs (m ∙ sym f.runs) c.last c.entries s k.incumbent k.compared k.known c.place k.place) q a x e;
+  aborts = λ c s q f k a e. at_question (basic_parts.phase c) (Aborts setup sums start b c.max_runs (m ∙ sym f.runs) c.last c.entries s k.incumbent k.compared k.known c.place)
+      (aborts_by setup sums start b c.max_runs (m ∙ sym f.runs) c.last c.entries s k.incumbent k.compared k.known c.place k.place) q a e;
   begins = λ c s θ φ j f k none. let h : IsKnown c.max_runs sums c.last s = known_at_rest c.max_runs sums start c.last c.place s none k.place in record {
-    stays = record { incumbent = k.incumbent; compared = refl; place = record { most = h.most; top = h.top; runs = h.runs; sum = h.sum } };
+    stays = record { incumbent = k.incumbent; compared = refl; known = k.known; place = record { most = h.most; top = h.top; runs = h.runs; sum = h.sum } };
     same = refl;
     unasked = record { asks = refl; entries = refl; event = refl };
   };
+  known = λ c s f k. k.known;
   ended = λ c s b e. ended_at setup sums c.max_runs c.last.config c.place s b e;
   last = λ c s f k. last_by c.max_runs sums start c.last c.place s zero k.incumbent k.compared k.place;
 }
