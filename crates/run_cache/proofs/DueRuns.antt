@@ -11,11 +11,11 @@ module _ (limits : Bounds) (T : Table) (asks : List Question) where
       → AreDueBetween limits T asks first later runs
   due_up_to_later first last later [] more within = omega arith
   due_up_to_later first last later (run ∷ runs) more due =
-      record due { rest = due_up_to_later due.number last later runs more due.rest }
+      record { number = due.number; from = due.from; due = due.due; rest = due_up_to_later due.number last later runs more due.rest }
 
   -- one more run, which is due at the last ask
   pub one_more_due : (first last : ℕ) (runs : List CellRun) (run : CellRun) → AreDueBetween limits T asks first last runs
       → IsDue limits T asks last run → AreDueBetween limits T asks first last (runs ++ run ∷ [])
   one_more_due first last [] run within due = record { number = last; from = within; due = due; rest = omega arith }
   one_more_due first last (r ∷ runs) run before due =
-      record before { rest = one_more_due before.number last runs run before.rest due }
+      record { number = before.number; from = before.from; due = before.due; rest = one_more_due before.number last runs run before.rest due }

@@ -1,1 +1,4 @@
+mod RowLemmas
+mod LearningSteps
+pub mod Agreement
 pub mod DueRuns

@@ -1,6 +1,6 @@
 -- What a cache knows, and with which outcomes that agrees.
 use Rattle.std.specs.Prelude.{ℕ, zero, suc, ◌+◌, ◌-◌, ◌^◌, ◌≡◌, ◌≢◌, ◌≤◌, min, Bool, true, false, ◌&&◌, ◌==◌, List, [], ◌∷◌, ◌++◌, length, replicate, All, bytes_eq, nat_le, nat_lt, slice_index_or, slice_set, unwrap_or, if◌then◌else◌}
-use Rattle.std.specs.Map.{lookup, set_value}
+use Rattle.std.specs.Map.{lookup, set_value, values_of}
 use Rattle.objective.specs.Bounds.{Bounds}
 use Rattle.objective.specs.Costs.{Table}
 use Rattle.objective.specs.declared.Outcome.{Outcome}
@@ -44,7 +44,7 @@ has_place_in c config place = nat_lt 0 place && nat_le place (length (row_of c.r
 
 -- the cell is the configuration at the place
 abbrev pub is_at : Cell → List ℕ → ℕ → Bool
-is_at cell config place = bytes_eq config cell.config && (place == cell.place)
+is_at cell config place = bytes_eq cell.config config && (cell.place == place)
 
 -- this is known of one cell, and of each other one what was known before
 abbrev pub known_after : Knowledge → Cell → Known → Knowledge
@@ -74,7 +74,7 @@ IsRow limits row = All (IsInRange limits) row
 
 -- all that is known lies in its range
 abbrev pub AreRows : Bounds → Rows → Type 0
-AreRows limits rows = All (λ row. IsRow limits row.1) rows
+AreRows limits rows = All (IsRow limits) (values_of rows)
 
 -- what is known of each cell agrees with the table's outcome of it
 pub record AgreesWith (T : Table) (c : Cached) : Type 0 where

@@ -38,6 +38,17 @@ impl Model for Cache {
     ghost invariant = { λ c. AreRows c.limits c.rows.entries };
 }
 
+/// The count of conflicts after a run, which stands still at the greatest number.
+fn count_after(conflicts: u64, conflict: bool) -> u64
+    ensures { result ≡ conflicts_after conflicts conflict }
+{
+    if conflict {
+        conflicts.saturating_add(1)
+    } else {
+        conflicts
+    }
+}
+
 impl Cache {
     /// A cache that knows nothing. Takes no memory.
     pub fn new(alloc: Global, limits: Limits) -> Cache
@@ -156,9 +167,7 @@ impl Cache {
         let before = self.known(cell);
         let lesson = lesson_of(&self.limits, before, cutoff, answer);
         self.set(cell, lesson.known);
-        if lesson.conflict {
-            self.conflicts = self.conflicts.saturating_add(1);
-        }
+        self.conflicts = count_after(self.conflicts, lesson.conflict);
         learnt(before, lesson)
     }
 }
