@@ -4,7 +4,7 @@ ghost use Rattle.basic_ils.specs.State.{evaluated_config, is_renewed, entry, pla
 
 use crate::place::Place;
 use ils_face::{Ask, Entry, Reply, Rules};
-use ils_frame::{Comparer, Stage};
+use ils_frame::{Comparer, Entries, Stage};
 use objective::{Memory, Sum};
 use param_space::Config;
 use std::alloc::Global;
@@ -25,7 +25,7 @@ pub struct Basic {
     asked: Ask,
     place: Place,
     /// The incumbents so far, oldest first.
-    entries: Vec<Entry>,
+    entries: Entries,
 }
 
 impl Model for Basic {
@@ -34,7 +34,7 @@ impl Model for Basic {
 
     ghost Value = { State };
 
-    ghost view = { λ b. record { max_runs = b.max_runs; last = record { compared = b.compared; runs = b.runs; sum = b.sum.0; config = b.incumbent }; place = place_seen b.asked b.place; entries = b.entries.items } };
+    ghost view = { λ b. record { max_runs = b.max_runs; last = record { compared = b.compared; runs = b.runs; sum = b.sum.0; config = b.incumbent }; place = place_seen b.asked b.place; entries = b.entries } };
 
     ghost invariant = { λ b. IsAskOf b.max_runs b.incumbent b.asked (place_seen b.asked b.place) };
 }
@@ -83,8 +83,7 @@ impl Basic {
             sum,
             config: incumbent.copy()?,
         };
-        self.entries.reserve(1)?;
-        self.entries.push_reserved(entry);
+        self.entries.push(entry)?;
         self.incumbent = incumbent;
         self.runs = self.max_runs;
         self.sum = sum;
@@ -132,17 +131,6 @@ fn copy_place(place: &Place) -> Result<Place, Memory>
     }
 }
 
-/// The same entries, by the list's own allocator.
-fn copy_entries(entries: &Vec<Entry>) -> Result<Vec<Entry>, Memory>
-    ensures { IfOk result (λ es. es.items ≡ entries.now.items) }
-{
-    let mut copies = Vec::new(*entries.allocator());
-    for entry in entries {
-        copies.push(entry.copy()?)?;
-    }
-    Ok(copies)
-}
-
 impl Comparer for Basic {
     ghost use Rattle.basic_ils.specs.State.{basic_parts, first_state, coming_in, IsFit, Stands};
     ghost use Rattle.basic_ils.specs.Laws.SteadyLaw.{rules_steady};
@@ -180,7 +168,7 @@ impl Comparer for Basic {
             },
             incumbent,
             place: Place::Opening,
-            entries: Vec::new(alloc),
+            entries: Entries::new(alloc)?,
         })
     }
 
@@ -233,7 +221,7 @@ impl Comparer for Basic {
             sum: self.sum,
             asked: self.asked.copy()?,
             place: copy_place(&self.place)?,
-            entries: copy_entries(&self.entries)?,
+            entries: self.entries.copy()?,
         })
     }
 

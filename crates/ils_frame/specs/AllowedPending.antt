@@ -21,5 +21,5 @@ module _ (allowed : Settings → Type 0) where
   abbrev pub IsPendingAllowed : Pending → Type 0
   IsPendingAllowed Opening = Unit {0}
   IsPendingAllowed (Trying more θ current) = allowed θ × allowed current
-  IsPendingAllowed (Improving after left θ φ rest) = IsAfterAllowed after × allowed θ × allowed φ × AreAllowed rest
+  IsPendingAllowed (Improving after left θ tried) = IsAfterAllowed after × allowed θ × allowed tried.neighbour × AreAllowed tried.rest
   IsPendingAllowed (Returning more θ ils) = allowed θ × allowed ils

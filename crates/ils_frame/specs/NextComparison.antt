@@ -22,7 +22,7 @@ pub record Reached : Type 0 where
 abbrev pub next_among : After → (Settings → ℕ → Next) → ℕ → Settings → List Settings → ℕ → Next
 next_among after done left θ [] e = done θ e
 next_among after done zero θ (φ ∷ rest) e = Finish e
-next_among after done (suc left) θ (φ ∷ rest) e = Compare (Improving after left θ φ rest) φ θ e
+next_among after done (suc left) θ (φ ∷ rest) e = Compare (Improving after left θ (record { neighbour = φ; rest = rest })) φ θ e
 
 -- what was found is compared with the best so far
 abbrev pub next_return : ℕ → Settings → Settings → ℕ → Next
@@ -73,6 +73,7 @@ module _ (setup : Setup) where
   abbrev pub next : ℕ → Pending → Bool → ℕ → Next
   next m Opening won e = next_tried m setup.initial setup.start e
   next m (Trying more θ current) won e = next_tried m more (if won then θ else current) e
-  next m (Improving after left θ φ rest) won e =
-      if won then next_among after (next_after m after) left φ (neighbours_in_order φ e) (e + 1) else next_among after (next_after m after) left θ rest e
+  next m (Improving after left θ tried) won e = if won
+      then next_among after (next_after m after) left tried.neighbour (neighbours_in_order tried.neighbour e) (e + 1)
+      else next_among after (next_after m after) left θ tried.rest e
   next m (Returning more θ ils) won e = next_restarted m more (if won then θ else ils) e

@@ -8,20 +8,20 @@ use Rattle.ils_frame.specs.declared.upcoming.Among.{Among}
 use Rattle.ils_frame.specs.declared.upcoming.Among.TheVariants.{Compared, Spent, Over}
 use Rattle.ils_frame.specs.declared.upcoming.Upcoming.{Upcoming}
 use Rattle.ils_frame.specs.declared.upcoming.Upcoming.TheVariants.{Along, Begin, End}
+use Rattle.ils_frame.specs.TriedNeighbours.{tried_next}
 use Rattle.ils_frame.specs.NextComparison.{Next, Compare, Finish}
 
 -- the first of these neighbours, where there is one and a comparison is left for it
 abbrev pub among_of : After → ℕ → Settings → List Settings → Among
 among_of after left θ [] = Over after θ
 among_of after zero θ (φ ∷ rest) = Spent
-among_of after (suc left) θ (φ ∷ rest) = Compared (Improving after left θ φ rest) φ θ
+among_of after (suc left) θ (φ ∷ rest) = Compared (Improving after left θ (record { neighbour = φ; rest = rest })) φ θ
 
 -- the next neighbour of the same list is tried
 abbrev pub pending_along : Pending → Pending
 pending_along Opening = Opening
 pending_along (Trying more θ current) = Trying more θ current
-pending_along (Improving after left θ φ []) = Improving after left θ φ []
-pending_along (Improving after left θ φ (ψ ∷ rest)) = Improving after (left - 1) θ ψ rest
+pending_along (Improving after left θ tried) = Improving after (left - 1) θ (tried_next tried)
 pending_along (Returning more θ ils) = Returning more θ ils
 
 -- what is upcoming as the next comparison

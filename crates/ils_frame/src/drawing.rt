@@ -6,14 +6,12 @@ ghost use Rattle.ils_face.specs.Setups.{configs_at, setup_of};
 ghost use Rattle.ils_frame.specs.NextComparison;
 ghost use Rattle.ils_frame.specs.NextComparison.{perturbation};
 
-use crate::pending::Neighbours;
 use ils_face::Rules;
 use neighbourhood::neighbours;
 use objective::Memory;
 use param_space::Config;
 use seeded_order::Draws;
 use std::alloc::Global;
-use std::collections::VecDeque;
 
 /// The stream of a search event.
 pub(crate) fn stream_of(event: u64) -> u64
@@ -25,15 +23,15 @@ pub(crate) fn stream_of(event: u64) -> u64
 }
 
 /// The configurations with these numbers.
-fn picked(alloc: Global, configs: &[Config], numbers: &[u32]) -> Result<Neighbours, Memory>
+fn picked(alloc: Global, configs: &[Config], numbers: &[u32]) -> Result<Vec<Config>, Memory>
     requires { All (λ i. i < length configs.now) numbers.now }
-    ensures { IfOk result (λ n. n ≡ configs_at configs.now numbers.now) }
+    ensures { IfOk result (λ picked. picked.items ≡ configs_at configs.now numbers.now) }
 {
-    let mut picked = VecDeque::new(alloc);
+    let mut picked = Vec::with_capacity(alloc, numbers.len())?;
     for number in numbers {
-        picked.push_back(configs[*number as usize].copy()?)?;
+        picked.push(configs[*number as usize].copy()?)?;
     }
-    Ok(Neighbours::new(picked))
+    Ok(picked)
 }
 
 /// The neighbours of a configuration in the order that an event draws.
@@ -43,10 +41,10 @@ pub(crate) fn neighbours_in_order(
     rules: &Rules,
     config: &Config,
     event: u64,
-) -> Result<Neighbours, Memory>
+) -> Result<Vec<Config>, Memory>
     requires config { IsConfig rules.now.space config.now }
     requires event { event < 2 ^ 61 }
-    ensures { IfOk result (λ n. n ≡ NextComparison.neighbours_in_order (setup_of rules.now) config.now event) }
+    ensures { IfOk result (λ around. around.items ≡ NextComparison.neighbours_in_order (setup_of rules.now) config.now event) }
 {
     let found = neighbours(alloc, &rules.space, config)?;
     let count = found.len() as u32;

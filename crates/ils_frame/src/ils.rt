@@ -4,12 +4,14 @@ ghost use Rattle.std.specs.Prelude.{◌≡◌};
 use crate::beginning::{begin, set_out};
 use crate::comparer::Comparer;
 use crate::pending::{Course, Stage};
+use crate::replies::Replies;
 use crate::upcoming::next;
 use ils_face::{Ask, Entry, Reply, Rules, Search};
 use objective::{Memory, Sum};
 use param_space::Config;
 use std::alloc::Global;
 use std::marker::Model;
+use std::sync::Arc;
 
 /// Iterated local search (ParamILS framework, Hutter et al., JAIR 36): initial random
 /// configurations, iterative first improvement in the one-exchange neighbourhood,
@@ -17,8 +19,8 @@ use std::marker::Model;
 /// rules and the list of its replies.
 #[derive(Drop)]
 pub struct Ils<C: Comparer> {
-    rules: Rules,
-    replies: Vec<Reply>,
+    rules: Arc<Rules>,
+    replies: Replies,
     comparer: C,
     course: Course,
     end: Ask,
@@ -34,9 +36,9 @@ impl<C: Comparer> Model for Ils<C> {
 
     ghost Value = { History };
 
-    ghost view = { λ s. record { rules = s.rules; replies = s.replies.items } };
+    ghost view = { λ s. record { rules = s.rules.value; replies = s.replies.items } };
 
-    ghost invariant = { λ s. record { ruled : AreRules s.rules; reached : machine_of s.comparer s.course ≡ machine_after C.parts (C.at_open s.rules) s.rules s.replies.items; fitting : AreFitting (shown_after C.parts (C.at_open s.rules) s.rules) s.replies.items; end : s.end ≡ End } };
+    ghost invariant = { λ s. record { ruled : AreRules s.rules.value; reached : machine_of s.comparer s.course ≡ machine_after C.parts (C.at_open s.rules.value) s.rules.value s.replies.items; fitting : AreFitting (shown_after C.parts (C.at_open s.rules.value) s.rules.value) s.replies.items; end : s.end ≡ End } };
 }
 
 impl<C: Comparer> Search for Ils<C> {
@@ -70,8 +72,8 @@ impl<C: Comparer> Search for Ils<C> {
         let mut comparer = C::open(alloc, &kept)?;
         let course = set_out(alloc, &kept, &mut comparer)?;
         Ok(Ils {
-            rules: kept,
-            replies: Vec::new(alloc),
+            rules: Arc::new(alloc, kept)?,
+            replies: Replies::new(alloc)?,
             comparer,
             course,
             end: Ask::End,
@@ -87,23 +89,17 @@ impl<C: Comparer> Search for Ils<C> {
     }
 
     fn answer(&mut self, reply: Reply) -> Result<(), Memory> {
-        self.replies.reserve(1)?;
+        self.replies.reserve()?;
         match self.comparer.decided_by(reply) {
             None => self.comparer.answer(reply)?,
             Some(won) => {
-                let alloc = *self.replies.allocator();
+                let alloc = self.replies.allocator();
+                let rules: &Rules = &self.rules;
                 let compared = self.comparer.compared();
                 let course = &self.course;
-                let upcoming = next(
-                    alloc,
-                    &self.rules,
-                    compared,
-                    &course.pending,
-                    won,
-                    course.event,
-                )?;
+                let upcoming = next(alloc, rules, compared, &course.pending, won, course.event)?;
                 self.comparer.answer(reply)?;
-                begin(&mut self.comparer, &mut self.course, &self.rules, upcoming);
+                begin(&mut self.comparer, &mut self.course, rules, upcoming);
             }
         }
         self.replies.push_reserved(reply);
@@ -112,16 +108,16 @@ impl<C: Comparer> Search for Ils<C> {
 
     fn copy(&self) -> Result<Ils<C>, Memory> {
         Ok(Ils {
-            replies: self.replies.clone()?,
+            rules: self.rules.clone()?,
+            replies: self.replies.copy()?,
             comparer: self.comparer.copy()?,
             course: self.course.copy()?,
-            rules: self.rules.copy()?,
             end: Ask::End,
         })
     }
 
     fn answers(&self) -> u64 {
-        self.replies.len() as u64
+        self.replies.len()
     }
 
     fn compared(&self) -> u32 {

@@ -4,10 +4,13 @@
 mod beginning;
 mod comparer;
 mod drawing;
+mod entries;
 mod ils;
 mod pending;
+mod replies;
 mod upcoming;
 
 pub use comparer::Comparer;
+pub use entries::Entries;
 pub use ils::Ils;
 pub use pending::Stage;

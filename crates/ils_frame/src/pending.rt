@@ -1,11 +1,12 @@
 //! What the present comparison is for.
+ghost use Rattle.ils_frame.specs.TriedNeighbours.{tried_at, tried_next};
 ghost use Rattle.ils_frame.specs.UpcomingComparison.{pending_along};
-ghost use Rattle.std.specs.Prelude.{◌≡◌, ◌∷◌, [], slice_get, IfOk, IfSome, IfNone};
+ghost use Rattle.std.specs.Prelude.{◌≡◌, ◌≤◌, [], length, slice_get, IfOk, IfSome, IfNone};
 
 use objective::Memory;
 use param_space::Config;
-use std::collections::VecDeque;
 use std::marker::Model;
+use std::sync::Arc;
 
 /// How far a comparer is.
 #[derive(Clone, Copy, Debug, PartialEq, Eq)]
@@ -18,53 +19,70 @@ pub enum Stage {
     Decided(bool),
 }
 
-/// Configurations that are taken from the front.
+/// Neighbours that are tried one after another. A copy shares their list.
 #[derive(Drop)]
 pub(crate) struct Neighbours {
-    configs: VecDeque<Config>,
+    configs: Arc<Vec<Config>>,
+    /// The place of the one that is tried, from 0.
+    place: usize,
 }
 
 impl Model for Neighbours {
-    ghost use Rattle.std.specs.Prelude.{List, ℕ};
+    ghost use Rattle.std.specs.Prelude.{◌<◌, length};
+    ghost use Rattle.ils_frame.specs.TriedNeighbours.{Tried, tried_at};
 
-    ghost Value = { List (List ℕ) };
+    ghost Value = { Tried };
 
-    ghost view = { λ n. n.configs.items };
+    ghost view = { λ n. tried_at n.configs.value.items n.place };
+
+    ghost invariant = { λ n. n.place < length n.configs.value.items };
 }
 
 impl Neighbours {
-    /// These configurations. Takes no memory.
-    pub(crate) fn new(configs: VecDeque<Config>) -> Neighbours
-        ensures { result ≡ configs.items }
+    /// The first one is tried.
+    pub(crate) fn new(configs: Vec<Config>) -> Result<Neighbours, Memory>
+        requires { 1 ≤ length configs.items }
+        ensures { IfOk result (λ n. n ≡ tried_at configs.items 0) }
     {
-        Neighbours { configs }
+        let alloc = *configs.allocator();
+        Ok(Neighbours {
+            configs: Arc::new(alloc, configs)?,
+            place: 0,
+        })
     }
 
-    /// Takes the first one.
-    pub(crate) fn take_first(&mut self) -> Option<Config>
-        ensures none { IfNone result ((self.old ≡ []) × (self.new ≡ [])) }
-        ensures some { IfSome result (λ c. self.old ≡ c ∷ self.new) }
+    /// The one that is tried.
+    pub(crate) fn tried(&self) -> &Config
+        ensures { result.now ≡ self.now.neighbour }
     {
-        self.configs.pop_front()
+        &self.configs[self.place]
     }
 
-    /// The first one.
-    pub(crate) fn first(&self) -> Option<&Config>
-        ensures none { IfNone result (self.now ≡ []) }
-        ensures some { IfSome result (λ c. slice_get self.now 0 ≡ Some c.now) }
+    /// The one after it.
+    pub(crate) fn next(&self) -> Option<&Config>
+        ensures none { IfNone result (self.now.rest ≡ []) }
+        ensures some { IfSome result (λ c. slice_get self.now.rest 0 ≡ Some c.now) }
     {
-        self.configs.front()
+        self.configs.get(self.place + 1)
     }
 
-    /// The same configurations.
+    /// The next one is tried, where there is one. Takes no memory.
+    pub(crate) fn advance(&mut self)
+        ensures { self.new ≡ tried_next self.old }
+    {
+        if self.place + 1 < self.configs.len() {
+            self.place += 1;
+        }
+    }
+
+    /// The same neighbours, shared.
     pub(crate) fn copy(&self) -> Result<Neighbours, Memory>
         ensures { IfOk result (λ n. n ≡ self.now) }
     {
-        let mut configs = VecDeque::new(*self.configs.allocator());
-        for place in 0..self.configs.len() {
-            configs.push_back(self.configs[place].copy()?)?;
-        }
-        Ok(Neighbours { configs })
+        Ok(Neighbours {
+            configs: self.configs.clone()?,
+            place: self.place,
+        })
     }
 }
 
@@ -119,10 +137,8 @@ pub(crate) enum Pending {
         left: u32,
         /// The current configuration.
         current: Config,
-        /// Its neighbour.
-        neighbour: Config,
-        /// The neighbours that weren't tried yet.
-        rest: Neighbours,
+        /// Its neighbours, from the one that is tried on.
+        around: Neighbours,
     },
     /// What an improvement found is compared with the best so far.
     Returning {
@@ -140,17 +156,15 @@ fn copy_improving(
     after: &After,
     left: u32,
     current: &Config,
-    neighbour: &Config,
-    rest: &Neighbours,
+    around: &Neighbours,
 ) -> Result<Pending, Memory>
-    ensures { IfOk result (λ p. p ≡ Pending.Improving after.now left current.now neighbour.now rest.now) }
+    ensures { IfOk result (λ p. p ≡ Pending.Improving after.now left current.now around.now) }
 {
     Ok(Pending::Improving {
         after: after.copy()?,
         left,
         current: current.copy()?,
-        neighbour: neighbour.copy()?,
-        rest: rest.copy()?,
+        around: around.copy()?,
     })
 }
 
@@ -174,9 +188,8 @@ impl Pending {
                 after,
                 left,
                 current,
-                neighbour,
-                rest,
-            } => copy_improving(after, *left, current, neighbour, rest),
+                around,
+            } => copy_improving(after, *left, current, around),
             Pending::Returning { more, found, ils } => Ok(Pending::Returning {
                 more: *more,
                 found: found.copy()?,
@@ -189,17 +202,9 @@ impl Pending {
     pub(crate) fn advance(&mut self)
         ensures { self.new ≡ pending_along self.old }
     {
-        if let Pending::Improving {
-            left,
-            neighbour,
-            rest,
-            ..
-        } = self
-        {
-            if let Some(next) = rest.take_first() {
-                *neighbour = next;
-                *left = left.saturating_sub(1);
-            }
+        if let Pending::Improving { left, around, .. } = self {
+            *left = left.saturating_sub(1);
+            around.advance();
         }
     }
 }

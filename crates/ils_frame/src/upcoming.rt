@@ -1,7 +1,6 @@
 //! Which comparison is next.
 ghost use Rattle.std.specs.Prelude.{if◌then◌else◌, ℕ, ◌+◌, ◌≡◌, ◌<◌, ◌≤◌, ◌^◌, IfOk};
 ghost use Rattle.param_space.specs.Configurations.{IsConfig};
-ghost use Rattle.uncapped.specs.Procedure.{Settings};
 ghost use Rattle.ils_face.specs.Setups.{setup_of};
 ghost use Rattle.ils_frame.specs.AllowedPending.{IsPendingAllowed};
 ghost use Rattle.ils_frame.specs.declared.pending.Pending.{Pending};
@@ -71,27 +70,26 @@ fn first_among(
     after: After,
     left: u32,
     current: Config,
-    neighbours: Neighbours,
+    neighbours: Vec<Config>,
 ) -> Result<Among, Memory>
-    ensures { IfOk result (λ a. a ≡ among_of after left current neighbours) }
+    ensures { IfOk result (λ a. a ≡ among_of after left current neighbours.items) }
 {
-    let mut rest = neighbours;
-    let Some(neighbour) = rest.take_first() else {
+    if neighbours.is_empty() {
         return Ok(Among::Over {
             after,
             found: current,
         });
-    };
+    }
     if left == 0 {
         return Ok(Among::Spent);
     }
-    let (first, second) = (neighbour.copy()?, current.copy()?);
+    let around = Neighbours::new(neighbours)?;
+    let (first, second) = (around.tried().copy()?, current.copy()?);
     let pending = Pending::Improving {
         after,
         left: left - 1,
         current,
-        neighbour,
-        rest,
+        around,
     };
     Ok(Among::Compared {
         pending,
@@ -187,13 +185,13 @@ fn improving(
     after: After,
     left: u32,
     current: Config,
-    neighbours: Neighbours,
+    neighbours: Vec<Config>,
     event: u64,
 ) -> Result<Upcoming, Memory>
     requires config { IsConfig rules.now.space current }
     requires event { event < 2 ^ 59 }
     requires within { compared ≤ rules.now.budget }
-    ensures { (purpose : Pending) (e : ℕ) → IfOk result (λ u. upcoming_seen purpose e u ≡ NextComparison.next_among after (NextComparison.next_after (setup_of rules.now) compared after) left current neighbours event) }
+    ensures { (purpose : Pending) (e : ℕ) → IfOk result (λ u. upcoming_seen purpose e u ≡ NextComparison.next_among after (NextComparison.next_after (setup_of rules.now) compared after) left current neighbours.items event) }
 {
     match first_among(after, left, current, neighbours)? {
         Among::Compared {
@@ -311,15 +309,15 @@ fn next_along(
     after: &After,
     left: u32,
     current: &Config,
-    rest: &Neighbours,
+    around: &Neighbours,
     event: u64,
 ) -> Result<Upcoming, Memory>
     requires config { IsConfig rules.now.space current.now }
     requires event { event < 2 ^ 59 }
     requires within { compared ≤ rules.now.budget }
-    ensures { (neighbour : Settings) → IfOk result (λ u. upcoming_seen (Pending.Improving after.now left current.now neighbour rest.now) event u ≡ NextComparison.next_among after.now (NextComparison.next_after (setup_of rules.now) compared after.now) left current.now rest.now event) }
+    ensures { IfOk result (λ u. upcoming_seen (Pending.Improving after.now left current.now around.now) event u ≡ NextComparison.next_among after.now (NextComparison.next_after (setup_of rules.now) compared after.now) left current.now around.now.rest event) }
 {
-    let Some(neighbour) = rest.first() else {
+    let Some(neighbour) = around.next() else {
         let (after, found) = (after.copy()?, current.copy()?);
         return next_after(alloc, rules, compared, after, found, event);
     };
@@ -369,13 +367,13 @@ pub(crate) fn next(
             after,
             left,
             current,
-            neighbour,
-            rest,
+            around,
         } => {
             if won {
-                next_won(alloc, rules, compared, after, *left, neighbour, event)
+                let winner = around.tried();
+                next_won(alloc, rules, compared, after, *left, winner, event)
             } else {
-                next_along(alloc, rules, compared, after, *left, current, rest, event)
+                next_along(alloc, rules, compared, after, *left, current, around, event)
             }
         }
         Pending::Returning { more, found, ils } => {

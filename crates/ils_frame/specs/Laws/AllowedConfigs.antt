@@ -65,8 +65,8 @@ module _ (allowed : Settings → Type 0) where
     pub next-allowed : (m : ℕ) (purpose : Pending) (won : Bool) (e : ℕ) → IsPendingAllowed allowed purpose → IsNextAllowed (next setup m purpose won e)
     next-allowed m Opening won e n = tried-allowed m setup.initial setup.start e draws.start
     next-allowed m (Trying more θ current) won e n = tried-allowed m more (if won then θ else current) e (chosen won θ current n.0 n.1)
-    next-allowed m (Improving after left θ φ rest) true e n = among-allowed after (next_after setup m after) n.0 (after-allowed m after n.0) left φ (neighbours_in_order setup φ e) (e + 1) n.2 (draws.around e φ n.2)
-    next-allowed m (Improving after left θ φ rest) false e n = among-allowed after (next_after setup m after) n.0 (after-allowed m after n.0) left θ rest e n.1 n.3
+    next-allowed m (Improving after left θ tried) true e n = among-allowed after (next_after setup m after) n.0 (after-allowed m after n.0) left tried.neighbour (neighbours_in_order setup tried.neighbour e) (e + 1) n.2 (draws.around e tried.neighbour n.2)
+    next-allowed m (Improving after left θ tried) false e n = among-allowed after (next_after setup m after) n.0 (after-allowed m after n.0) left θ tried.rest e n.1 n.3
     next-allowed m (Returning more θ ils) won e n = at_coin (setup.coin e)
       where
         at_coin : (r : Bool) → IsNextAllowed (if r then next_turn setup m more (setup.random (e + 1)) (e + 1 + 1) else next_turn setup m more (if won then θ else ils) (e + 1))

@@ -40,7 +40,7 @@ module _ (setup : Setup) (better : Settings → Settings → Procedure Bool) whe
   abbrev pub continuation : Pending → Bool → Procedure (Unit {0})
   continuation Opening won = try_from setup.initial setup.start
   continuation (Trying more θ current) won = try_from more (if won then θ else current)
-  continuation (Improving after left θ φ rest) won = go_on left θ φ rest won >>= finish after
+  continuation (Improving after left θ tried) won = go_on left θ tried.neighbour tried.rest won >>= finish after
   continuation (Returning more θ ils) won = come_back more θ ils won
 
   -- the next comparison with all that follows it
@@ -114,8 +114,8 @@ module _ (setup : Setup) (better : Settings → Settings → Procedure Bool) whe
   pub nexts : (purpose : Pending) (won : Bool) (s : PlainState) → continuation setup better purpose won s ≡ run_next setup better (next setup s.compared purpose won s.event) s
   nexts Opening won s = tries setup.initial setup.start s
   nexts (Trying more θ current) won s = tries more (if won then θ else current) s
-  nexts (Improving after left θ φ rest) true s = amongs s.compared after left φ (neighbours_in_order setup φ s.event) (at_event s (s.event + 1)) refl ∙ anywhere (next_among after (next_after setup s.compared after) left φ (neighbours_in_order setup φ s.event) (s.event + 1)) s (s.event + 1)
-  nexts (Improving after left θ φ rest) false s = amongs s.compared after left θ rest s refl
+  nexts (Improving after left θ tried) true s = amongs s.compared after left tried.neighbour (neighbours_in_order setup tried.neighbour s.event) (at_event s (s.event + 1)) refl ∙ anywhere (next_among after (next_after setup s.compared after) left tried.neighbour (neighbours_in_order setup tried.neighbour s.event) (s.event + 1)) s (s.event + 1)
+  nexts (Improving after left θ tried) false s = amongs s.compared after left θ tried.rest s refl
   nexts (Returning more θ ils) won s = at_coin (setup.coin s.event) refl
     where
       at_coin : (r : Bool) → setup.coin s.event ≡ r

@@ -18,7 +18,7 @@ module _ (setup : Setup) where
   abbrev pub IsSpare : ℕ → Pending → Type 0
   IsSpare m Opening = Unit {0}
   IsSpare m (Trying more θ current) = Unit {0}
-  IsSpare m (Improving after left θ φ rest) = (left ≡ setup.budget - m) × IsAfterSpare m after
+  IsSpare m (Improving after left θ tried) = (left ≡ setup.budget - m) × IsAfterSpare m after
   IsSpare m (Returning more θ ils) = setup.budget < more + m
 
   -- a next comparison leaves enough turns, and the end comes with the budget
@@ -56,8 +56,8 @@ module _ (setup : Setup) where
     pub next-spare : (purpose : Pending) (won : Bool) (e : ℕ) → IsSpare m purpose → IsNextSpare m (next setup m purpose won e)
     next-spare Opening won e s = tried-spare setup.initial setup.start e
     next-spare (Trying more θ current) won e s = tried-spare more (if won then θ else current) e
-    next-spare (Improving after left θ φ rest) true e s = among-spare after (next_after setup m after) s.1 (after-spare after s.1) left s.0 φ (neighbours_in_order setup φ e) (e + 1)
-    next-spare (Improving after left θ φ rest) false e s = among-spare after (next_after setup m after) s.1 (after-spare after s.1) left s.0 θ rest e
+    next-spare (Improving after left θ tried) true e s = among-spare after (next_after setup m after) s.1 (after-spare after s.1) left s.0 tried.neighbour (neighbours_in_order setup tried.neighbour e) (e + 1)
+    next-spare (Improving after left θ tried) false e s = among-spare after (next_after setup m after) s.1 (after-spare after s.1) left s.0 θ tried.rest e
     next-spare (Returning more θ ils) won e s = at_coin (setup.coin e)
       where
         at_coin : (r : Bool) → IsNextSpare m (if r then next_turn setup m more (setup.random (e + 1)) (e + 1 + 1) else next_turn setup m more (if won then θ else ils) (e + 1))
@@ -101,8 +101,8 @@ module _ (setup : Setup) where
     pub next-drawn : (purpose : Pending) (won : Bool) (e : ℕ) → setup.strength + e + 3 ≤ most → IsDrawnBy most (next setup m purpose won e)
     next-drawn Opening won e h = tried-drawn setup.initial setup.start e (omega (arith, h))
     next-drawn (Trying more θ current) won e h = tried-drawn more (if won then θ else current) e (omega (arith, h))
-    next-drawn (Improving after left θ φ rest) true e h = among-drawn after (next_after setup m after) left φ (neighbours_in_order setup φ e) (e + 1) (λ θ. after-drawn after θ (e + 1) (omega (arith, h))) (omega (arith, h))
-    next-drawn (Improving after left θ φ rest) false e h = among-drawn after (next_after setup m after) left θ rest e (λ θ. after-drawn after θ e (omega (arith, h))) (omega (arith, h))
+    next-drawn (Improving after left θ tried) true e h = among-drawn after (next_after setup m after) left tried.neighbour (neighbours_in_order setup tried.neighbour e) (e + 1) (λ θ. after-drawn after θ (e + 1) (omega (arith, h))) (omega (arith, h))
+    next-drawn (Improving after left θ tried) false e h = among-drawn after (next_after setup m after) left θ tried.rest e (λ θ. after-drawn after θ e (omega (arith, h))) (omega (arith, h))
     next-drawn (Returning more θ ils) won e h = at_coin (setup.coin e)
       where
         at_coin : (r : Bool) → IsDrawnBy most (if r then next_turn setup m more (setup.random (e + 1)) (e + 1 + 1) else next_turn setup m more (if won then θ else ils) (e + 1))

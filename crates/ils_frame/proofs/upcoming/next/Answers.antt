@@ -1,4 +1,4 @@
-use Rattle.std.proofs.Common.{◌∙◌, ap, sym}
+use Rattle.std.proofs.Common.{◌+◌, ◌∙◌, ap, sym}
 use Rattle.std.proofs.lemmas.Result.{IfOk-weaker}
 use Rattle.uncapped.specs.Setup.{Setup}
 use Rattle.param_space.specs.Space.{defaults}
@@ -7,7 +7,7 @@ use Rattle.ils_face.proofs.Setups.{SetupOf, setup_of-numbers}
 use Rattle.ils_face.specs.Setups.{setup_of}
 use Rattle.ils_frame.specs.declared.pending.Pending.{Pending}
 use Rattle.ils_frame.specs.declared.pending.Pending.TheVariants.{Improving}
-use Rattle.ils_frame.specs.NextComparison.{next, next_tried}
+use Rattle.ils_frame.specs.NextComparison.{next, next_among, next_after, next_tried, neighbours_in_order}
 use Rattle.ils_frame.specs.UpcomingComparison.{upcoming_seen}
 use Rattle.ils_frame.proofs.upcoming.next.Goals as goal
 
@@ -26,9 +26,10 @@ returns-in_ok-start-in-Opening c =
 pub returns-then-won : goal.returns-then-won
 returns-then-won c =
     let setup : Setup = setup_of c.args.rules.now in
-    let present : Pending = Improving c.in-Improving.after c.in-Improving.left c.in-Improving.current c.in-Improving.neighbour c.in-Improving.rest in
+    let present : Pending = Improving c.in-Improving.after c.in-Improving.left c.in-Improving.current c.in-Improving.around in
     IfOk-weaker c.next_won.result _ _
     (λ u h. h
+    ∙ ap (λ θ. next_among c.in-Improving.after (next_after setup c.args.compared c.in-Improving.after) c.in-Improving.left θ (neighbours_in_order setup θ c.args.event) (c.args.event + 1)) c.tried-winner.ensures
     ∙ sym (ap (λ p. next setup c.args.compared p c.args.won c.args.event) c.in-Improving.is
     ∙ ap (λ b. next setup c.args.compared present b c.args.event) c.if-won.true))
     (c.next_won.ensures c.args.pending.now c.args.event)
@@ -36,9 +37,9 @@ returns-then-won c =
 pub returns-else-won : goal.returns-else-won
 returns-else-won c =
     let setup : Setup = setup_of c.args.rules.now in
-    let present : Pending = Improving c.in-Improving.after c.in-Improving.left c.in-Improving.current c.in-Improving.neighbour c.in-Improving.rest in
+    let present : Pending = Improving c.in-Improving.after c.in-Improving.left c.in-Improving.current c.in-Improving.around in
     IfOk-weaker c.next_along.result _ _
     (λ u h. ap (λ p. upcoming_seen p c.args.event u) c.in-Improving.is ∙ h
     ∙ sym (ap (λ p. next setup c.args.compared p c.args.won c.args.event) c.in-Improving.is
     ∙ ap (λ b. next setup c.args.compared present b c.args.event) c.if-won.false))
-    (c.next_along.ensures c.in-Improving.neighbour)
+    c.next_along.ensures

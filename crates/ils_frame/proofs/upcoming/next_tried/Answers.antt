@@ -16,7 +16,7 @@ returns-then-more-eq0 c = λ purpose e.
     let left : c.rules.inside.budget - c.args.compared ≡ (setup_of now).budget - c.args.compared = omega (arith, same.budget, ap (λ (r : Rules). r.budget) c.rules.view_is) in
     IfOk-weaker c.improving.result _ _
     (λ u h. h
-    ∙ ap (λ n. next_among First (next_after (setup_of now) c.args.compared First) n c.args.current c.in_ok-around.around (c.args.event + 1)) left
+    ∙ ap (λ n. next_among First (next_after (setup_of now) c.args.compared First) n c.args.current c.in_ok-around.around.items (c.args.event + 1)) left
     ∙ ap (λ a. next_among First (next_after (setup_of now) c.args.compared First) ((setup_of now).budget - c.args.compared) c.args.current a (c.args.event + 1)) c.in_ok-around.ensures
     ∙ sym (ap (λ n. next_tried (setup_of now) c.args.compared n c.args.current c.args.event) c.if-more-eq0.true))
     (c.improving.ensures purpose e)

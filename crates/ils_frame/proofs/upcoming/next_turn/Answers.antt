@@ -11,20 +11,20 @@ use Rattle.ils_frame.proofs.upcoming.next_turn.Goals as goal
 
 pub returns-in-Compared : goal.returns-in-Compared
 returns-in-Compared c = λ purpose e.
-    turn_made c.args.rules.now c.args.compared c.args.turns (c.args.turns - 1) c.args.ils c.in_ok-best.best c.in_ok-far.far c.args.event c.from.result (c.args.event + c.from.result) (c.rules.inside.budget - c.args.compared) c.in_ok-around.around
+    turn_made c.args.rules.now c.args.compared c.args.turns (c.args.turns - 1) c.args.ils c.in_ok-best.best c.in_ok-far.far c.args.event c.from.result (c.args.event + c.from.result) (c.rules.inside.budget - c.args.compared) c.in_ok-around.around.items
     (Compared c.in-Compared.pending c.in-Compared.first c.in-Compared.second)
     (omega (arith, c.if-turns-eq0.false)) (search rules ∙ ap (λ (r : Rules). r.strength) c.rules.view_is) refl (ap (λ (r : Rules). r.budget - c.args.compared) c.rules.view_is) c.in_ok-far.ensures.value c.in_ok-around.ensures c.in_ok-best.ensures (search rules)
 
 pub returns-in-Spent : goal.returns-in-Spent
 returns-in-Spent c = λ purpose e.
-    turn_made c.args.rules.now c.args.compared c.args.turns (c.args.turns - 1) c.args.ils c.in_ok-best.best c.in_ok-far.far c.args.event c.from.result (c.args.event + c.from.result) (c.rules.inside.budget - c.args.compared) c.in_ok-around.around
+    turn_made c.args.rules.now c.args.compared c.args.turns (c.args.turns - 1) c.args.ils c.in_ok-best.best c.in_ok-far.far c.args.event c.from.result (c.args.event + c.from.result) (c.rules.inside.budget - c.args.compared) c.in_ok-around.around.items
     Spent
     (omega (arith, c.if-turns-eq0.false)) (search rules ∙ ap (λ (r : Rules). r.strength) c.rules.view_is) refl (ap (λ (r : Rules). r.budget - c.args.compared) c.rules.view_is) c.in_ok-far.ensures.value c.in_ok-around.ensures c.in_ok-best.ensures (search rules)
 
 pub returns-in-Over : goal.returns-in-Over
 returns-in-Over c = λ purpose e.
-    let made : Over c.in-Over._after c.in-Over.found ≡ among_of (Turn (c.args.turns - 1) c.in_ok-best.best) (c.rules.inside.budget - c.args.compared) c.in_ok-far.far c.in_ok-around.around = search rules in
-    let turn = turn_made c.args.rules.now c.args.compared c.args.turns (c.args.turns - 1) c.args.ils c.in_ok-best.best c.in_ok-far.far c.args.event c.from.result (c.args.event + c.from.result) (c.rules.inside.budget - c.args.compared) c.in_ok-around.around
+    let made : Over c.in-Over._after c.in-Over.found ≡ among_of (Turn (c.args.turns - 1) c.in_ok-best.best) (c.rules.inside.budget - c.args.compared) c.in_ok-far.far c.in_ok-around.around.items = search rules in
+    let turn = turn_made c.args.rules.now c.args.compared c.args.turns (c.args.turns - 1) c.args.ils c.in_ok-best.best c.in_ok-far.far c.args.event c.from.result (c.args.event + c.from.result) (c.rules.inside.budget - c.args.compared) c.in_ok-around.around.items
     (Over c.in-Over._after c.in-Over.found)
     (omega (arith, c.if-turns-eq0.false)) (search rules ∙ ap (λ (r : Rules). r.strength) c.rules.view_is) refl (ap (λ (r : Rules). r.budget - c.args.compared) c.rules.view_is) c.in_ok-far.ensures.value c.in_ok-around.ensures c.in_ok-best.ensures made in
     IfOk-weaker c.returning.result _ _

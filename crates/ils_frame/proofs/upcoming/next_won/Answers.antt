@@ -12,7 +12,7 @@ returns c = λ purpose e.
     let event : ℕ = c.args.event + 1 in
     IfOk-weaker c.improving.result _ _
     (λ u h. h
-    ∙ ap (λ a. next_among a (next_after setup m a) c.args.left c.in_ok-current.current c.in_ok-around.around event) c.in_ok-after.ensures
-    ∙ ap (λ θ. next_among c.args.after.now (next_after setup m c.args.after.now) c.args.left θ c.in_ok-around.around event) c.in_ok-current.ensures
+    ∙ ap (λ a. next_among a (next_after setup m a) c.args.left c.in_ok-current.current c.in_ok-around.around.items event) c.in_ok-after.ensures
+    ∙ ap (λ θ. next_among c.args.after.now (next_after setup m c.args.after.now) c.args.left θ c.in_ok-around.around.items event) c.in_ok-current.ensures
     ∙ ap (λ xs. next_among c.args.after.now (next_after setup m c.args.after.now) c.args.left c.args.winner.now xs event) c.in_ok-around.ensures)
     (c.improving.ensures purpose e)
