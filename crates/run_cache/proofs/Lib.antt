@@ -2,3 +2,6 @@ mod RowLemmas
 mod LearningSteps
 pub mod Agreement
 pub mod DueRuns
+pub mod FurtherRuns
+pub mod FirstKnowledge
+pub mod Ranges

@@ -1,0 +1,59 @@
+-- What is known lies in its range, and a run settles its cell at its cutoff.
+use Rattle.std.proofs.Common.{ℕ, ◌≡◌, ◌*◌, ◌<◌, ◌≤◌, max, Bool, true, false, refl, inl, inr, arith}
+use Rattle.std.specs.Prelude.{nat_lt, if◌then◌else◌}
+use Rattle.std.proofs.lemmas.Bool.{le-leb}
+use Rattle.objective.specs.Bounds.{Bounds}
+use Rattle.objective.specs.Costs.{penalty}
+use Rattle.objective.specs.declared.Answer.{Answer}
+use Rattle.objective.specs.declared.Answer.TheVariants as answer
+use Rattle.run_cache.specs.declared.known.Known.{Known}
+use Rattle.run_cache.specs.declared.known.Known.TheVariants.{Nothing, Over, Exact, Abort}
+use Rattle.run_cache.specs.declared.learning.Evidence.{Evidence}
+use Rattle.run_cache.specs.declared.learning.Evidence.TheVariants as evidence
+use Rattle.run_cache.specs.Knowledge.{IsCost, is_settled}
+use Rattle.run_cache.specs.Learning.{evidence_of, lesson_from, lesson}
+use Rattle.run_cache.proofs.Agreement.{cutoff_at_most_penalty}
+
+-- no cost is greater than the penalty
+pub cost_at_most_penalty : (limits : Bounds) (x : ℕ) → IsCost limits x → x ≤ penalty limits
+cost_at_most_penalty limits x (inl timely) = omega (arith, cutoff_at_most_penalty limits)
+cost_at_most_penalty limits x (inr same) = omega (arith, same)
+
+-- evidence under a cutoff: of more time exactly for that one
+abbrev IsUnder : ℕ → Evidence → Type 0
+IsUnder cutoff (evidence.Solved t) = Unit {0}
+IsUnder cutoff (evidence.Longer c) = c.0 ≡ cutoff
+IsUnder cutoff evidence.Unsolved = Unit {0}
+IsUnder cutoff evidence.Abort = Unit {0}
+
+evidence_under : (limits : Bounds) (cutoff : ℕ) (shown : Answer) → IsUnder cutoff (evidence_of limits cutoff shown)
+evidence_under limits cutoff (answer.Solved t) = tt
+evidence_under limits cutoff answer.Timeout = by (nat_lt cutoff limits.cutoff)
+  where
+    by : (b : Bool) → IsUnder cutoff (if b then evidence.Longer (record { 0 = cutoff }) else evidence.Unsolved)
+    by true = refl
+    by false = tt
+evidence_under limits cutoff answer.Crashed = tt
+evidence_under limits cutoff answer.Abort = tt
+
+settled_line : (penalty cutoff : ℕ) (known : Known) (e : Evidence) → IsUnder cutoff e → is_settled (lesson_from penalty known e).known cutoff ≡ true
+settled_line penalty cutoff Nothing (evidence.Solved t) under = refl
+settled_line penalty cutoff Nothing (evidence.Longer c) under = le-leb cutoff c.0 (omega (arith, under))
+settled_line penalty cutoff Nothing evidence.Unsolved under = refl
+settled_line penalty cutoff Nothing evidence.Abort under = refl
+settled_line penalty cutoff (Over k) (evidence.Solved t) under = refl
+settled_line penalty cutoff (Over k) (evidence.Longer c) under = le-leb cutoff (max k.0 c.0) (omega (arith, under))
+settled_line penalty cutoff (Over k) evidence.Unsolved under = refl
+settled_line penalty cutoff (Over k) evidence.Abort under = refl
+settled_line penalty cutoff (Exact x) (evidence.Solved t) under = refl
+settled_line penalty cutoff (Exact x) (evidence.Longer c) under = refl
+settled_line penalty cutoff (Exact x) evidence.Unsolved under = refl
+settled_line penalty cutoff (Exact x) evidence.Abort under = refl
+settled_line penalty cutoff Abort (evidence.Solved t) under = refl
+settled_line penalty cutoff Abort (evidence.Longer c) under = refl
+settled_line penalty cutoff Abort evidence.Unsolved under = refl
+settled_line penalty cutoff Abort evidence.Abort under = refl
+
+-- after a run with a cutoff the cell is settled at it
+pub settled_after : (limits : Bounds) (known : Known) (cutoff : ℕ) (shown : Answer) → is_settled (lesson limits known cutoff shown).known cutoff ≡ true
+settled_after limits known cutoff shown = settled_line (penalty limits) cutoff known (evidence_of limits cutoff shown) (evidence_under limits cutoff shown)
