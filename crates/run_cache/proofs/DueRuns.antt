@@ -3,7 +3,7 @@ use Rattle.std.proofs.Common.{ℕ, ◌≤◌, List, [], ◌∷◌, ◌++◌, ari
 use Rattle.objective.specs.Bounds.{Bounds}
 use Rattle.objective.specs.Costs.{Table}
 use Rattle.uncapped.specs.Procedure.{Question}
-use Rattle.run_cache.specs.Runs.{CellRun, IsDue, AreDue, AreDueBetween}
+use Rattle.run_cache.specs.Runs.{CellRun, IsDue, AreDueBetween}
 
 module _ (limits : Bounds) (T : Table) (asks : List Question) where
   -- a later last ask serves too

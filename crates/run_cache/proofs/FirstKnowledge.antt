@@ -1,5 +1,5 @@
 -- A cache that knows nothing: it agrees with every table, and needs no runs.
-use Rattle.std.proofs.Common.{ℕ, zero, suc, ◌≡◌, ◌<◌, List, [], Option, Some, None, refl, sym, subst}
+use Rattle.std.proofs.Common.{ℕ, zero, suc, ◌≡◌, [], refl, sym, subst}
 use Rattle.std.proofs.lemmas.Option.{none-some}
 use Rattle.objective.specs.Bounds.{Bounds}
 use Rattle.objective.specs.Costs.{Table}

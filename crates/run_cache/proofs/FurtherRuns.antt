@@ -1,6 +1,6 @@
 -- One more run of a cell that isn't settled at its cutoff, learnt: the runs stay rising, and go on backing what is known.
-use Rattle.std.proofs.Common.{ℕ, zero, suc, ◌≡◌, ◌<◌, ◌≤◌, max, Bool, true, false, ◌&&◌, List, [], ◌∷◌, ◌++◌, length, Option, Some, None, refl, sym, ap, subst, ◌∙◌, inl, inr, arith}
-use Rattle.std.specs.Prelude.{◌⊎◌, ◌==◌, nat_le, nat_lt, if◌then◌else◌, bytes_eq, slice_get}
+use Rattle.std.proofs.Common.{ℕ, zero, suc, ◌≡◌, ◌<◌, max, Bool, true, false, ◌&&◌, List, [], ◌∷◌, ◌++◌, length, Some, refl, sym, ap, subst, ◌∙◌, inl, inr, arith}
+use Rattle.std.specs.Prelude.{◌⊎◌, ◌==◌, nat_lt, if◌then◌else◌, bytes_eq, slice_get}
 use Rattle.std.specs.Cmp.Lexicographic.{bytes_decides}
 use Rattle.std.proofs.lemmas.Bool.{true≢false, leb-false, eqb-true, eq-eqb}
 use Rattle.std.proofs.lemmas.Option.{same_Some, none-some, slice_get_within}
@@ -17,7 +17,7 @@ use Rattle.run_cache.specs.declared.learning.Evidence.TheVariants as evidence
 use Rattle.run_cache.specs.Knowledge.{is_settled}
 use Rattle.run_cache.specs.Learning.{evidence_of, lesson_from, lesson}
 use Rattle.run_cache.specs.Caches.{Knowledge, known_after}
-use Rattle.run_cache.specs.Runs.{CellRun, IsOutrun, IsRising, cost_from, exact_cost, IsRunOf, HasTimeout, IsTimeout, IsLongest, HasCost, HasAbort, IsBackedAt, IsBacked}
+use Rattle.run_cache.specs.Runs.{CellRun, IsOutrun, IsRising, cost_from, exact_cost, IsRunOf, IsTimeout, IsLongest, HasCost, HasAbort, IsBackedAt, IsBacked}
 
 -- an element before the last
 at_before_last : {A : Type 0} (xs : List A) (x y : A) (i : ℕ) → slice_get xs i ≡ Some y → slice_get (xs ++ x ∷ []) i ≡ Some y
@@ -154,7 +154,7 @@ module _ (limits : Bounds) (runs : List CellRun) (run : CellRun) where
       let more : k.0 < run.cutoff = leb-false run.cutoff k.0 unsettled in
       let same : run.cutoff ≡ max k.0 c.0 = (let cutoff = cut.same in omega arith) in
       longest limits runs run (max k.0 c.0) cut.timeout same
-          (λ r of. record { timeout = (before.each r of).timeout; at_most = (let most = (before.each r of).at_most in omega arith) })
+      (λ r of. record { timeout = (before.each r of).timeout; at_most = (let most = (before.each r of).at_most in omega arith) })
   backed_here (Over k) evidence.Unsolved is unsettled before = costs limits runs run (penalty limits) (ap (cost_from limits) is)
   backed_here (Over k) evidence.Abort is unsettled before = aborts limits runs run (abort_shown limits run.cutoff run.answer is)
   backed_here (Exact x) e is unsettled before = absurd (true≢false unsettled)
@@ -167,19 +167,19 @@ module _ (limits : Bounds) (runs : List CellRun) (run : CellRun) where
     where
       by : (x y : Bool) (cell : Cell) → bytes_eq run.cell.config cell.config ≡ x → (run.cell.place == cell.place) ≡ y
           → IsBackedAt limits (runs ++ run ∷ []) cell
-              (if x && y then (lesson limits (known run.cell.config run.cell.place) run.cutoff run.answer).known else known cell.config cell.place)
+          (if x && y then (lesson limits (known run.cell.config run.cell.place) run.cutoff run.answer).known else known cell.config cell.place)
       by false y cell e f =
           backed_apart limits runs run cell (known cell.config cell.place)
-              (λ s. true≢false (sym ((bytes_decides run.cell.config cell.config).1 (ap (λ c. c.config) s)) ∙ e)) (backed.cells cell)
+          (λ s. true≢false (sym ((bytes_decides run.cell.config cell.config).1 (ap (λ c. c.config) s)) ∙ e)) (backed.cells cell)
       by true false cell e f =
           backed_apart limits runs run cell (known cell.config cell.place)
-              (λ s. true≢false (sym (eq-eqb run.cell.place cell.place (ap (λ c. c.place) s)) ∙ f)) (backed.cells cell)
+          (λ s. true≢false (sym (eq-eqb run.cell.place cell.place (ap (λ c. c.place) s)) ∙ f)) (backed.cells cell)
       by true true cell e f =
           let config = (bytes_decides run.cell.config cell.config).0 e in
           let place = eqb-true run.cell.place cell.place f in
           let same : run.cell ≡ cell = λ i. record { config = config i; place = place i } in
           subst (λ c. IsBackedAt limits (runs ++ run ∷ []) c (lesson limits (known run.cell.config run.cell.place) run.cutoff run.answer).known) same
-              (backed_here (known run.cell.config run.cell.place) (evidence_of limits run.cutoff run.answer) refl unsettled (backed.cells run.cell))
+          (backed_here (known run.cell.config run.cell.place) (evidence_of limits run.cutoff run.answer) refl unsettled (backed.cells run.cell))
 
   -- each earlier run of the cell shows a timeout under a lesser cutoff
   outrun_by : (known : Known) (r : CellRun) → is_settled known run.cutoff ≡ false → IsBackedAt limits runs run.cell known → IsRunOf runs run.cell r → IsOutrun r run
@@ -205,4 +205,4 @@ module _ (limits : Bounds) (runs : List CellRun) (run : CellRun) where
       by i j r s less same (inl first) (inr second) =
           let own : r.cell ≡ run.cell = same ∙ ap (λ t. t.cell) (sym second.1) in
           subst (IsOutrun r) second.1
-              (outrun_by (known run.cell.config run.cell.place) r unsettled (backed.cells run.cell) (record { number = i; among = first; same = own }))
+          (outrun_by (known run.cell.config run.cell.place) r unsettled (backed.cells run.cell) (record { number = i; among = first; same = own }))

@@ -1,5 +1,5 @@
 -- A cache before and after it learns: what its steps make of it.
-use Rattle.std.proofs.Common.{ℕ, ◌≡◌, Bool, true, false, ◌&&◌, List, refl, sym, ap, subst, ◌∙◌, inl, inr}
+use Rattle.std.proofs.Common.{ℕ, ◌≡◌, Bool, true, false, ◌&&◌, List, refl, sym, ap, subst, ◌∙◌}
 use Rattle.std.specs.Prelude.{◌≢◌, IsTrue, ◌==◌, if◌then◌else◌, bytes_eq}
 use Rattle.std.specs.Cmp.Lexicographic.{bytes_decides}
 use Rattle.std.proofs.lemmas.Bool.{and_from, eq-eqb, eqb-true}
@@ -8,7 +8,6 @@ use Rattle.objective.specs.declared.Outcome.{Outcome}
 use Rattle.objective.specs.declared.Answer.{Answer}
 use Rattle.run_cache.specs.declared.cell.Cell.{Cell}
 use Rattle.run_cache.specs.declared.known.Known.{Known}
-use Rattle.run_cache.specs.declared.known.Learnt.{Learnt}
 use Rattle.run_cache.specs.declared.known.Learnt.TheVariants.{Fresh, Same, Conflict}
 use Rattle.run_cache.specs.declared.learning.Lesson.{Lesson}
 use Rattle.run_cache.specs.Knowledge.{Agrees}

@@ -1,5 +1,5 @@
 -- What a cache knows, and with which outcomes that agrees.
-use Rattle.std.specs.Prelude.{ℕ, zero, suc, ◌+◌, ◌-◌, ◌^◌, ◌≡◌, ◌≢◌, ◌≤◌, min, Bool, true, false, ◌&&◌, ◌==◌, List, [], ◌∷◌, ◌++◌, length, replicate, All, bytes_eq, nat_le, nat_lt, slice_index_or, slice_set, unwrap_or, if◌then◌else◌}
+use Rattle.std.specs.Prelude.{ℕ, zero, suc, ◌-◌, ◌^◌, ◌≡◌, ◌≢◌, ◌≤◌, min, Bool, true, false, ◌&&◌, ◌==◌, List, [], ◌++◌, length, replicate, All, bytes_eq, nat_le, nat_lt, slice_index_or, slice_set, unwrap_or, if◌then◌else◌}
 use Rattle.std.specs.Map.{lookup, set_value, values_of}
 use Rattle.objective.specs.Bounds.{Bounds}
 use Rattle.objective.specs.Costs.{Table}

@@ -1,5 +1,5 @@
 -- What is known of a cell: the range that it lies in, the outcomes that it agrees with, and the runs that it saves.
-use Rattle.std.specs.Prelude.{ℕ, ◌≡◌, ◌<◌, ◌≤◌, ◌⊎◌, Bool, true, false, Option, Some, None, nat_le}
+use Rattle.std.specs.Prelude.{ℕ, ◌≡◌, ◌<◌, ◌≤◌, ◌⊎◌, Bool, true, false, Some, None, nat_le}
 use Rattle.objective.specs.Bounds.{Bounds}
 use Rattle.objective.specs.Costs.{seen, within, cost_of, penalty}
 use Rattle.objective.specs.declared.Outcome.{Outcome}

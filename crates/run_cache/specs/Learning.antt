@@ -23,32 +23,32 @@ evidence_of limits cutoff answer.Abort = evidence.Abort
 abbrev pub exactly : ℕ → Known
 exactly x = Exact (record { 0 = x })
 
--- this is known, and there is no conflict
-abbrev pub agreed : Known → Lesson
-agreed known = record { known = known; conflict = false }
+-- this is known, without a conflict
+abbrev pub without_conflict : Known → Lesson
+without_conflict known = record { known = known; conflict = false }
 
--- this stays known, and there may be a conflict
-abbrev pub kept : Known → Bool → Lesson
-kept known conflict = record { known = known; conflict = conflict }
+-- this is known, and it is a conflict where the test is true
+abbrev pub with_conflict : Bool → Known → Lesson
+with_conflict test known = record { known = known; conflict = test }
 
 -- the table of what is learnt, for the cost of a run without a solution
 abbrev pub lesson_from : ℕ → Known → Evidence → Lesson
-lesson_from penalty Nothing (evidence.Solved t) = agreed (exactly t.0)
-lesson_from penalty Nothing (evidence.Longer c) = agreed (Over c)
-lesson_from penalty Nothing evidence.Unsolved = agreed (exactly penalty)
-lesson_from penalty Nothing evidence.Abort = agreed Abort
-lesson_from penalty (Over k) (evidence.Solved t) = record { known = exactly t.0; conflict = nat_le t.0 k.0 }
-lesson_from penalty (Over k) (evidence.Longer c) = agreed (Over (record { 0 = max k.0 c.0 }))
-lesson_from penalty (Over k) evidence.Unsolved = agreed (exactly penalty)
-lesson_from penalty (Over k) evidence.Abort = agreed Abort
-lesson_from penalty (Exact x) (evidence.Solved t) = kept (Exact x) (not (t.0 == x.0))
-lesson_from penalty (Exact x) (evidence.Longer c) = kept (Exact x) (nat_le x.0 c.0)
-lesson_from penalty (Exact x) evidence.Unsolved = kept (Exact x) (not (x.0 == penalty))
-lesson_from penalty (Exact x) evidence.Abort = kept (Exact x) true
-lesson_from penalty Abort (evidence.Solved t) = kept Abort true
-lesson_from penalty Abort (evidence.Longer c) = kept Abort false
-lesson_from penalty Abort evidence.Unsolved = kept Abort true
-lesson_from penalty Abort evidence.Abort = kept Abort false
+lesson_from penalty Nothing (evidence.Solved t) = without_conflict (exactly t.0)
+lesson_from penalty Nothing (evidence.Longer c) = without_conflict (Over c)
+lesson_from penalty Nothing evidence.Unsolved = without_conflict (exactly penalty)
+lesson_from penalty Nothing evidence.Abort = without_conflict Abort
+lesson_from penalty (Over k) (evidence.Solved t) = with_conflict (nat_le t.0 k.0) (exactly t.0)
+lesson_from penalty (Over k) (evidence.Longer c) = without_conflict (Over (record { 0 = max k.0 c.0 }))
+lesson_from penalty (Over k) evidence.Unsolved = without_conflict (exactly penalty)
+lesson_from penalty (Over k) evidence.Abort = without_conflict Abort
+lesson_from penalty (Exact x) (evidence.Solved t) = with_conflict (not (t.0 == x.0)) (Exact x)
+lesson_from penalty (Exact x) (evidence.Longer c) = with_conflict (nat_le x.0 c.0) (Exact x)
+lesson_from penalty (Exact x) evidence.Unsolved = with_conflict (not (x.0 == penalty)) (Exact x)
+lesson_from penalty (Exact x) evidence.Abort = with_conflict true (Exact x)
+lesson_from penalty Abort (evidence.Solved t) = with_conflict true Abort
+lesson_from penalty Abort (evidence.Longer c) = without_conflict Abort
+lesson_from penalty Abort evidence.Unsolved = with_conflict true Abort
+lesson_from penalty Abort evidence.Abort = without_conflict Abort
 
 -- what a run's answer under a cutoff teaches
 abbrev pub lesson : Bounds → Known → ℕ → Answer → Lesson

@@ -28,6 +28,15 @@ pub(crate) struct Lesson {
     pub conflict: bool,
 }
 
+impl Lesson {
+    /// The lesson that this is known, and whether it is a conflict.
+    fn new(known: Known, conflict: bool) -> Lesson
+        ensures { result ≡ Learning.with_conflict conflict known }
+    {
+        Lesson { known, conflict }
+    }
+}
+
 /// What an answer under a cutoff says of its cell.
 pub(crate) fn evidence_of(limits: &Limits, cutoff: Micros, answer: Answer) -> Evidence
     ensures { result ≡ Learning.evidence_of limits.now cutoff.0 answer }
@@ -44,15 +53,11 @@ pub(crate) fn evidence_of(limits: &Limits, cutoff: Micros, answer: Answer) -> Ev
 fn first_lesson(penalty: Sum, evidence: Evidence) -> Lesson
     ensures { result ≡ Learning.lesson_from penalty.0 Nothing evidence }
 {
-    let known = match evidence {
-        Evidence::Solved(t) => Known::Exact(Sum(t.0)),
-        Evidence::Longer(cutoff) => Known::Over(cutoff),
-        Evidence::Unsolved => Known::Exact(penalty),
-        Evidence::Abort => Known::Abort,
-    };
-    Lesson {
-        known,
-        conflict: false,
+    match evidence {
+        Evidence::Solved(t) => Lesson::new(Known::Exact(Sum(t.0)), false),
+        Evidence::Longer(cutoff) => Lesson::new(Known::Over(cutoff), false),
+        Evidence::Unsolved => Lesson::new(Known::Exact(penalty), false),
+        Evidence::Abort => Lesson::new(Known::Abort, false),
     }
 }
 
@@ -61,14 +66,10 @@ fn longer_lesson(penalty: Sum, shown: Micros, evidence: Evidence) -> Lesson
     ensures { result ≡ Learning.lesson_from penalty.0 (Over shown) evidence }
 {
     match evidence {
-        Evidence::Solved(t) => Lesson {
-            known: Known::Exact(Sum(t.0)),
-            conflict: t.0 <= shown.0,
-        },
-        Evidence::Longer(cutoff) => Lesson {
-            known: Known::Over(Micros(shown.0.max(cutoff.0))),
-            conflict: false,
-        },
+        Evidence::Solved(t) => Lesson::new(Known::Exact(Sum(t.0)), t.0 <= shown.0),
+        Evidence::Longer(cutoff) => {
+            Lesson::new(Known::Over(Micros(shown.0.max(cutoff.0))), false)
+        }
         Evidence::Unsolved | Evidence::Abort => first_lesson(penalty, evidence),
     }
 }
@@ -85,16 +86,6 @@ fn contradicts(penalty: Sum, cost: Sum, evidence: Evidence) -> bool
     }
 }
 
-/// Whether evidence contradicts a known abort.
-fn denies_abort(penalty: Sum, evidence: Evidence) -> bool
-    ensures { result ≡ (Learning.lesson_from penalty.0 Abort evidence).conflict }
-{
-    match evidence {
-        Evidence::Solved(_) | Evidence::Unsolved => true,
-        Evidence::Longer(_) | Evidence::Abort => false,
-    }
-}
-
 /// What evidence adds to what was known, for the cost of a run without a solution.
 fn lesson_from(penalty: Sum, known: Known, evidence: Evidence) -> Lesson
     ensures { result ≡ Learning.lesson_from penalty.0 known evidence }
@@ -102,13 +93,10 @@ fn lesson_from(penalty: Sum, known: Known, evidence: Evidence) -> Lesson
     match known {
         Known::Nothing => first_lesson(penalty, evidence),
         Known::Over(shown) => longer_lesson(penalty, shown, evidence),
-        Known::Exact(cost) => Lesson {
-            known,
-            conflict: contradicts(penalty, cost, evidence),
-        },
-        Known::Abort => Lesson {
-            known,
-            conflict: denies_abort(penalty, evidence),
+        Known::Exact(cost) => Lesson::new(known, contradicts(penalty, cost, evidence)),
+        Known::Abort => match evidence {
+            Evidence::Solved(_) | Evidence::Unsolved => Lesson::new(known, true),
+            Evidence::Longer(_) | Evidence::Abort => Lesson::new(known, false),
         },
     }
 }

@@ -42,7 +42,7 @@ impl Row {
         self.places.as_slice()
     }
 
-    /// Makes the row have this place. What is known stays.
+    /// Makes the row have this place. What is known stays. The room grows by an eighth at least.
     pub(crate) fn grow(&mut self, place: u32) -> Result<(), Memory>
         ensures ok { OnOk result (self.new ≡ grown place self.old) }
         ensures err { OnErr result (self.new ≡ self.old) }
@@ -52,7 +52,9 @@ impl Row {
         if wanted <= len {
             return Ok(());
         }
-        self.places.reserve_exact(wanted - len)?;
+        if self.places.capacity() < wanted {
+            self.places.reserve_exact((len / 8).max(wanted - len))?;
+        }
         self.places.resize(wanted, Known::Nothing)?;
         Ok(())
     }

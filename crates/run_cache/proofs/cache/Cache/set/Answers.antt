@@ -1,4 +1,4 @@
-use Rattle.std.proofs.Common.{ap, sym, subst, ◌∙◌}
+use Rattle.std.proofs.Common.{ap, sym, subst}
 use Rattle.run_cache.specs.Knowledge.{IsInRange}
 use Rattle.run_cache.proofs.RowLemmas.{AreRows-written, IsRow-set}
 use Rattle.run_cache.proofs.cache.Cache.set.Goals as goal

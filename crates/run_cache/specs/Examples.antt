@@ -1,0 +1,2 @@
+-- What is learnt, worked on small limits.
+pub mod LearningTable
