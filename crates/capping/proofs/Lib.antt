@@ -1,0 +1,8 @@
+mod ExactSums
+mod WalkEnds
+mod RepliedCosts
+mod NeededRuns
+mod AbortedPlaces
+mod LearntAnswers
+mod Promises
+mod WalkSteps

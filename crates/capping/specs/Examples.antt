@@ -1,0 +1,2 @@
+-- Verdicts, worked on small asks.
+pub mod Verdicts
