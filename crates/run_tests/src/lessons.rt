@@ -1,6 +1,7 @@
 //! What is learnt from a run, by what was known before it.
-ghost use Rattle.std.specs.Prelude.{IsTrue};
+ghost use Rattle.std.specs.Prelude.{◌≡◌, ◌≤◌, IfOk, IsTrue};
 ghost use Rattle.objective.specs.Costs.{IsWithin};
+ghost use Rattle.objective.specs.Limits.{max_runs};
 ghost use Rattle.run_cache.specs.Caches.{IsCutoff};
 
 use crate::checks::check;
@@ -19,7 +20,9 @@ pub(crate) fn limits() -> Limits {
 }
 
 /// The configuration with this value number at a place.
-pub(crate) fn cell(alloc: Global, value: u16, place: u32) -> Result<Cell, Memory> {
+pub(crate) fn cell(alloc: Global, value: u16, place: u32) -> Result<Cell, Memory>
+    ensures { IfOk result (λ c. c.place ≡ place) }
+{
     Ok(Cell {
         config: Config::new(Vec::from_slice(alloc, &[value])?),
         place,
@@ -53,7 +56,10 @@ pub(crate) fn learnt(
 }
 
 /// Makes a place for the cell, and learns this of it.
-pub(crate) fn know(cache: &mut Cache, cell: &Cell, known: Known) -> Result<(), Memory> {
+pub(crate) fn know(cache: &mut Cache, cell: &Cell, known: Known) -> Result<(), Memory>
+    requires first { 1 ≤ cell.now.place }
+    requires last { cell.now.place ≤ max_runs }
+{
     cache.reserve(cell)?;
     let _ = match known {
         Known::Nothing => None,

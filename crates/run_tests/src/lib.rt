@@ -7,6 +7,4 @@ mod caches;
 #[cfg(test)]
 mod checks;
 #[cfg(test)]
-mod decisions;
-#[cfg(test)]
 mod lessons;
