@@ -72,7 +72,7 @@ pub(crate) fn know(cache: &mut Cache, cell: &Cell, known: Known) -> Result<(), M
 }
 
 /// What a run teaches: what was known of its cell, its cutoff and answer, and what is known then.
-#[derive(Clone, Copy, Debug)]
+#[derive(Clone, Copy)]
 struct Lesson {
     before: Known,
     cutoff: u64,

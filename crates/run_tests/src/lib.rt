@@ -7,4 +7,6 @@ mod caches;
 #[cfg(test)]
 mod checks;
 #[cfg(test)]
+mod decisions;
+#[cfg(test)]
 mod lessons;
