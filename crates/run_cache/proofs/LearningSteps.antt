@@ -11,14 +11,10 @@ use Rattle.run_cache.specs.declared.known.Known.{Known}
 use Rattle.run_cache.specs.declared.known.Learnt.TheVariants.{Fresh, Same, Conflict}
 use Rattle.run_cache.specs.declared.learning.Lesson.{Lesson}
 use Rattle.run_cache.specs.Knowledge.{Agrees}
-use Rattle.run_cache.specs.Learning.{lesson, learnt, is_same}
-use Rattle.run_cache.specs.Caches.{Cached, IsCutoff, AgreesWith, GoesWith, is_at, known_in, known_after, has_place_in, conflicts_after, rows_with}
+use Rattle.run_cache.specs.Learning.{learnt, is_same}
+use Rattle.run_cache.specs.Caches.{Cached, IsCutoff, AgreesWith, GoesWith, is_at, known_in, known_after, has_place_in, lesson_in, conflicts_after, rows_with}
 use Rattle.run_cache.proofs.Agreement.{IsLearnt, learns}
 use Rattle.run_cache.proofs.RowLemmas.{known_in-set}
-
--- what is learnt of a cell of the cache
-abbrev pub lesson_in : Cached → Cell → ℕ → Answer → Lesson
-lesson_in c cell cutoff answer = lesson c.limits (known_in c cell.config cell.place) cutoff answer
 
 -- a cell is at its own place
 itself : (cell : Cell) → is_at cell cell.config cell.place ≡ true

@@ -3,13 +3,16 @@ use Rattle.std.specs.Prelude.{ℕ, zero, suc, ◌-◌, ◌^◌, ◌≡◌, ◌�
 use Rattle.std.specs.Map.{lookup, set_value, values_of}
 use Rattle.objective.specs.Bounds.{Bounds}
 use Rattle.objective.specs.Costs.{Table}
+use Rattle.objective.specs.declared.Answer.{Answer}
 use Rattle.objective.specs.declared.Outcome.{Outcome}
 use Rattle.run_cache.specs.declared.cell.Cell.{Cell}
 use Rattle.run_cache.specs.declared.known.Known.{Known}
 use Rattle.run_cache.specs.declared.known.Known.TheVariants.{Nothing}
 use Rattle.run_cache.specs.declared.known.Learnt.{Learnt}
 use Rattle.run_cache.specs.declared.known.Learnt.TheVariants.{Conflict}
+use Rattle.run_cache.specs.declared.learning.Lesson.{Lesson}
 use Rattle.run_cache.specs.Knowledge.{Agrees, IsInRange}
+use Rattle.run_cache.specs.Learning.{lesson}
 
 -- what is known of each configuration at each place
 abbrev pub Knowledge : Type 0
@@ -41,6 +44,18 @@ known_in c config place = known_at (row_of c.rows config) place
 -- a configuration's row has the place
 abbrev pub has_place_in : Cached → List ℕ → ℕ → Bool
 has_place_in c config place = nat_lt 0 place && nat_le place (length (row_of c.rows config))
+
+-- what is known of a cell
+abbrev pub known_of : Cached → Cell → Known
+known_of c cell = known_in c cell.config cell.place
+
+-- the cell has a place
+abbrev pub has_place_for : Cached → Cell → Bool
+has_place_for c cell = has_place_in c cell.config cell.place
+
+-- what a run of a cell teaches
+abbrev pub lesson_in : Cached → Cell → ℕ → Answer → Lesson
+lesson_in c cell cutoff answer = lesson c.limits (known_of c cell) cutoff answer
 
 -- the cell is the configuration at the place
 abbrev pub is_at : Cell → List ℕ → ℕ → Bool
@@ -82,6 +97,6 @@ pub record AgreesWith (T : Table) (c : Cached) : Type 0 where
 
 -- learning goes with an outcome of the cell: what is known then agrees with it, and it is no conflict
 pub record GoesWith (before after : Cached) (cell : Cell) (o : Outcome) (learnt : Learnt) : Type 0 where
-  pub agrees : Agrees before.limits (known_in after cell.config cell.place) o
+  pub agrees : Agrees before.limits (known_of after cell) o
   pub no_conflict : learnt ≢ Conflict
   pub conflicts : after.conflicts ≡ before.conflicts

@@ -1,11 +1,11 @@
 //! The cache.
-ghost use Rattle.std.specs.Prelude.{◌≡◌, ◌≢◌, ◌≤◌, ◌-◌, ℕ, List, [], IsTrue, OnOk, OnErr};
+ghost use Rattle.std.specs.Prelude.{◌≡◌, ◌≢◌, ◌≤◌, ◌-◌, ℕ, List, [], IsTrue, IsOk, OnOk, OnErr};
 ghost use Rattle.objective.specs.declared.Outcome.{Outcome};
 ghost use Rattle.objective.specs.Costs.{Table, IsWithin, seen};
 ghost use Rattle.objective.specs.Limits.{max_runs};
 ghost use Rattle.run_cache.specs.Knowledge.{Agrees, IsInRange};
-ghost use Rattle.run_cache.specs.Learning.{lesson, learnt as learnt_by};
-ghost use Rattle.run_cache.specs.Caches.{IsCutoff, IsRow, AreRows, AgreesWith, GoesWith, row_of, rows_with, known_at, known_in, known_after, has_place_in, conflicts_after};
+ghost use Rattle.run_cache.specs.Learning.{learnt as learnt_by};
+ghost use Rattle.run_cache.specs.Caches.{IsCutoff, IsRow, AreRows, AgreesWith, GoesWith, row_of, rows_with, known_at, known_in, known_of, known_after, has_place_in, has_place_for, lesson_in, conflicts_after};
 
 use crate::cell::Cell;
 use crate::known::{Known, Learnt};
@@ -102,7 +102,7 @@ impl Cache {
 
     /// What is known of a cell.
     pub fn known(&self, cell: &Cell) -> Known
-        ensures value { result ≡ known_in self.now cell.now.config cell.now.place }
+        ensures value { result ≡ known_of self.now cell.now }
         ensures in_range { IsInRange self.now.limits result }
     {
         self.known_at(&cell.config, cell.place)
@@ -110,22 +110,27 @@ impl Cache {
 
     /// Whether there is a place for what is learnt of a cell.
     pub fn has_place(&self, cell: &Cell) -> bool
-        ensures { result ≡ has_place_in self.now cell.now.config cell.now.place }
+        ensures { result ≡ has_place_for self.now cell.now }
     {
         0 < cell.place && cell.place as usize <= self.row(&cell.config).len()
     }
 
-    /// Makes a place for what is learnt of a cell. After want of memory the cache is as it was.
+    /// Makes a place for what is learnt of a cell, and takes no memory where there is one. After want of
+    /// memory the cache is as it was.
     pub fn reserve(&mut self, cell: &Cell) -> Result<(), Memory>
         requires from_one { 1 ≤ cell.now.place }
         requires most { cell.now.place ≤ max_runs }
-        ensures place { OnOk result (IsTrue (has_place_in self.new cell.now.config cell.now.place)) }
+        ensures place { OnOk result (IsTrue (has_place_for self.new cell.now)) }
         ensures places { (config : List ℕ) (place : ℕ) → IsTrue (has_place_in self.old config place) → IsTrue (has_place_in self.new config place) }
         ensures known { known_in self.new ≡ known_in self.old }
         ensures limits { self.new.limits ≡ self.old.limits }
         ensures conflicts { self.new.conflicts ≡ self.old.conflicts }
         ensures err { OnErr result (self.new ≡ self.old) }
+        ensures has_place { IsTrue (has_place_for self.old cell.now) → IsOk result }
     {
+        if self.has_place(cell) {
+            return Ok(());
+        }
         if let Some(row) = self.rows.get_mut(&cell.config) {
             return row.grow(cell.place);
         }
@@ -137,7 +142,7 @@ impl Cache {
 
     /// Puts down what is known of a cell that has a place.
     fn set(&mut self, cell: &Cell, known: Known)
-        requires place { IsTrue (has_place_in self.old cell.now.config cell.now.place) }
+        requires place { IsTrue (has_place_for self.old cell.now) }
         requires in_range { IsInRange self.old.limits known }
         ensures { self.new ≡ record self.old { rows = rows_with self.old.rows cell.now known } }
     {
@@ -149,19 +154,15 @@ impl Cache {
 
     /// Learns the answer of a run of a cell that has a place, under a cutoff. Takes no memory.
     pub fn learn(&mut self, cell: &Cell, cutoff: Micros, answer: Answer) -> Learnt
-        requires place { IsTrue (has_place_in self.old cell.now.config cell.now.place) }
+        requires place { IsTrue (has_place_for self.old cell.now) }
         requires cutoff { IsCutoff self.old.limits cutoff.0 }
         requires within { IsWithin answer cutoff.0 }
-        ensures answer { let before = known_in self.old cell.now.config cell.now.place in
-            result ≡ learnt_by before (lesson self.old.limits before cutoff.0 answer) }
-        ensures known { let before = known_in self.old cell.now.config cell.now.place in
-            known_in self.new ≡ known_after (known_in self.old) cell.now (lesson self.old.limits before cutoff.0 answer).known }
-        ensures conflicts { let before = known_in self.old cell.now.config cell.now.place in
-            self.new.conflicts ≡ conflicts_after self.old.conflicts (lesson self.old.limits before cutoff.0 answer).conflict }
+        ensures answer { result ≡ learnt_by (known_of self.old cell.now) (lesson_in self.old cell.now cutoff.0 answer) }
+        ensures known { known_in self.new ≡ known_after (known_in self.old) cell.now (lesson_in self.old cell.now cutoff.0 answer).known }
+        ensures conflicts { self.new.conflicts ≡ conflicts_after self.old.conflicts (lesson_in self.old cell.now cutoff.0 answer).conflict }
         ensures limits { self.new.limits ≡ self.old.limits }
         ensures places { has_place_in self.new ≡ has_place_in self.old }
-        ensures outcome { (o : Outcome) → Agrees self.old.limits (known_in self.old cell.now.config cell.now.place) o → answer ≡ seen o cutoff.0
-            → GoesWith self.old self.new cell.now o result }
+        ensures outcome { (o : Outcome) → Agrees self.old.limits (known_of self.old cell.now) o → answer ≡ seen o cutoff.0 → GoesWith self.old self.new cell.now o result }
         ensures table { (T : Table) → AgreesWith T self.old → answer ≡ seen (T cell.now.config cell.now.place) cutoff.0 → AgreesWith T self.new }
     {
         let before = self.known(cell);

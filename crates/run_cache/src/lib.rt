@@ -1,7 +1,7 @@
 //! What is known of runs: a row for each configuration, with what its runs have shown at each place.
 //!
-//! A run that is cut off below the full cutoff is worth keeping: it says that the configuration takes
-//! longer than that. The cache keeps no outcome twice and counts the runs that contradict each other.
+//! A run that is cut off below the full cutoff is kept too: it says that the configuration takes longer
+//! than that. Runs that contradict what is known are counted, and change no cost that is known.
 #![tactic(auto)]
 
 mod cache;

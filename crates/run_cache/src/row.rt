@@ -42,7 +42,8 @@ impl Row {
         self.places.as_slice()
     }
 
-    /// Makes the row have this place. What is known stays. The room grows by an eighth at least.
+    /// Makes the row have this place. What is known stays. The room grows by an eighth at least, so that
+    /// places made one by one don't copy the row each time, and little of it is left empty.
     pub(crate) fn grow(&mut self, place: u32) -> Result<(), Memory>
         ensures ok { OnOk result (self.new ≡ grown place self.old) }
         ensures err { OnErr result (self.new ≡ self.old) }

@@ -1,8 +1,8 @@
 use Rattle.std.proofs.Common.{◌≡◌, ap, sym, subst, ◌∙◌}
 use Rattle.run_cache.specs.Learning.{lesson, learnt}
-use Rattle.run_cache.specs.Caches.{Cached, GoesWith, known_in, conflicts_after}
+use Rattle.run_cache.specs.Caches.{Cached, GoesWith, lesson_in, known_in, conflicts_after}
 use Rattle.run_cache.proofs.RowLemmas.{has_place_in-set}
-use Rattle.run_cache.proofs.LearningSteps.{IsStep, lesson_in, step-known, step-outcome, step-table}
+use Rattle.run_cache.proofs.LearningSteps.{IsStep, step-known, step-outcome, step-table}
 use Rattle.run_cache.proofs.cache.Cache.learn.Goals as goal
 
 -- the cache at the end
