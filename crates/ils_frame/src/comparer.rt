@@ -75,7 +75,7 @@ pub trait Comparer: Sized + Drop {
         requires within { compared ≤ Limits.max_comparisons }
         ensures { self.new ≡ parts.begun self.old first second compared };
 
-    /// The same comparer.
+    /// The same comparer. What only grows is shared, so a copy costs the same whatever was met.
     fn copy(&self) -> Result<Self, Memory>
         ensures { IfOk result (λ c. c ≡ self.now) };
 

@@ -7,7 +7,8 @@ use std::alloc::Global;
 use std::marker::Model;
 use std::sync::Arc;
 
-/// Incumbents, oldest first. A copy shares them, until one of the two has a further one.
+/// Incumbents, oldest first. A copy shares their list; where one of the two has a further
+/// one, it copies the list first.
 #[derive(Drop)]
 pub struct Entries {
     list: Arc<Vec<Entry>>,

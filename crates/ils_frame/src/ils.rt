@@ -16,7 +16,8 @@ use std::sync::Arc;
 /// Iterated local search (ParamILS framework, Hutter et al., JAIR 36): initial random
 /// configurations, iterative first improvement in the one-exchange neighbourhood,
 /// perturbation and restarts, over the comparisons of a comparer. Contracts see it as its
-/// rules and the list of its replies.
+/// rules and the list of its replies. A copy shares what only grows and what stays, so it
+/// costs the same whatever the search has met.
 #[derive(Drop)]
 pub struct Ils<C: Comparer> {
     rules: Arc<Rules>,

@@ -7,7 +7,8 @@ use std::alloc::Global;
 use std::marker::Model;
 use std::sync::Arc;
 
-/// Replies, oldest first. A copy shares those so far.
+/// Replies, oldest first: a common list that copies share, and those that came while a copy
+/// was about.
 #[derive(Drop)]
 pub(crate) struct Replies {
     common: Arc<Vec<Reply>>,
@@ -67,7 +68,7 @@ impl Replies {
         self.further.push_reserved(reply);
     }
 
-    /// The same replies. They are shared but for those since the last copy.
+    /// The same replies: the common list is shared, and the further ones are copied.
     pub(crate) fn copy(&self) -> Result<Replies, Memory>
         ensures { IfOk result (λ r. r.items ≡ self.now.items) }
     {
