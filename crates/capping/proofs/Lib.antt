@@ -4,5 +4,5 @@ mod RepliedCosts
 mod NeededRuns
 mod AbortedPlaces
 mod LearntAnswers
-mod Promises
+pub mod Promises
 mod WalkSteps
