@@ -31,7 +31,7 @@ pub trait Comparer: Sized + Drop {
     ghost fit: { Rules → Self → Type 0 };
 
     /// It was reached by the replies of these total costs, and stands for this state of the
-    /// procedure. The total costs at all its counts are known.
+    /// procedure.
     ghost stands: { Rules → Sums → Self → PlainState → Type 0 };
 
     /// The opening evaluation of the procedure.

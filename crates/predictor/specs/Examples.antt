@@ -1,0 +1,3 @@
+-- Wishes, worked on small searches.
+pub mod Searches
+pub mod LookingAhead

@@ -1,0 +1,4 @@
+pub mod Choices
+pub mod Wishes
+pub mod Promises
+pub mod Examples

@@ -1,0 +1,153 @@
+//! Wishes in the making.
+ghost use Rattle.std.specs.Prelude.{◌≡◌, suc, [], IfOk, OnOk, if◌then◌else◌};
+ghost use Rattle.run_cache.specs.Knowledge;
+ghost use Rattle.run_cache.specs.Caches.{known_at, known_in, is_at as is_cell_at};
+ghost use Rattle.predictor.specs.Choices as choices;
+ghost use Rattle.predictor.specs.Choices.{run_of, with_wish, with_runs};
+ghost use Rattle.predictor.specs.Wishes.{runs_after};
+
+use crate::wish::Wish;
+use objective::{Memory, Micros};
+use param_space::Config;
+use run_cache::{Cache, Cell, Known};
+use std::alloc::Global;
+use std::marker::Model;
+
+/// Whether a cell is the configuration at the place.
+fn is_at(cell: &Cell, config: &Config, place: u32) -> bool
+    ensures { result ≡ is_cell_at cell.now config.now place }
+{
+    cell.place == place && config.values() == cell.config.values()
+}
+
+/// What is known of the place after so many.
+fn known_after(row: &[Known], done: u32) -> Known
+    ensures { result ≡ known_at row.now (suc done) }
+{
+    match row.get(done as usize) {
+        Some(known) => *known,
+        None => Known::Nothing,
+    }
+}
+
+/// Whether a run with this cutoff would tell nothing more.
+fn is_settled(known: Known, cutoff: Micros) -> bool
+    ensures { result ≡ Knowledge.is_settled known cutoff.0 }
+{
+    match known {
+        Known::Nothing => false,
+        Known::Over(time) => cutoff.0 <= time.0,
+        Known::Exact(_) | Known::Abort => true,
+    }
+}
+
+/// The wishes so far, at most so many, beside a cell that is needed.
+#[derive(Drop)]
+pub(crate) struct Choice {
+    needed: Cell,
+    most: u32,
+    wishes: Vec<Wish>,
+}
+
+impl Model for Choice {
+    ghost use Rattle.predictor.specs.Choices as choices;
+
+    ghost Value = { choices.Choice };
+
+    ghost view = { λ c. record { needed = c.needed; most = c.most; wishes = c.wishes.items } };
+}
+
+impl Choice {
+    /// No wishes yet, beside the configuration at the place.
+    pub(crate) fn new(
+        alloc: Global,
+        config: &Config,
+        place: u32,
+        most: u32,
+    ) -> Result<Choice, Memory>
+        ensures { IfOk result (λ c. c ≡ record { needed = record { config = config.now; place = place }; most = most; wishes = [] }) }
+    {
+        Ok(Choice {
+            needed: Cell::at(config, place)?,
+            most,
+            wishes: Vec::new(alloc),
+        })
+    }
+
+    /// The wishes.
+    pub(crate) fn into_wishes(self) -> Vec<Wish>
+        ensures { result.items ≡ self.wishes }
+    {
+        let Choice { wishes, .. } = self;
+        wishes
+    }
+
+    /// Whether there are fewer wishes than the most.
+    pub(crate) fn has_room(&self) -> bool
+        ensures { result ≡ choices.has_room self.now }
+    {
+        self.wishes.len() < self.most as usize
+    }
+
+    /// Whether a wish is for the configuration at the place.
+    fn has_wish(&self, config: &Config, place: u32) -> bool
+        ensures { result ≡ choices.has_wish self.now.wishes config.now place }
+    {
+        for wish in &self.wishes {
+            if is_at(&wish.cell, config, place) {
+                return true;
+            }
+        }
+        false
+    }
+
+    /// Adds a wish for a run, where there is room and its cell is new.
+    pub(crate) fn add(&mut self, config: &Config, place: u32, cutoff: Micros) -> Result<(), Memory>
+        ensures { OnOk result (self.new ≡ with_wish self.old (run_of config.now place cutoff.0)) }
+    {
+        if !self.has_room() || is_at(&self.needed, config, place) || self.has_wish(config, place) {
+            return Ok(());
+        }
+        let cell = Cell::at(config, place)?;
+        self.wishes.push(Wish { cell, cutoff })?;
+        Ok(())
+    }
+
+    /// Adds a wish for a run, unless it would tell nothing more than what is known of its cell.
+    fn add_unsettled(
+        &mut self,
+        known: Known,
+        config: &Config,
+        place: u32,
+        cutoff: Micros,
+    ) -> Result<(), Memory>
+        ensures { OnOk result (self.new ≡ (if Knowledge.is_settled known cutoff.0 then self.old else with_wish self.old (run_of config.now place cutoff.0))) }
+    {
+        if is_settled(known, cutoff) {
+            return Ok(());
+        }
+        self.add(config, place, cutoff)
+    }
+
+    /// Adds wishes for a configuration's runs at the places after this one, up to the last,
+    /// while there is room. Those that would tell nothing more are left out.
+    pub(crate) fn add_after(
+        &mut self,
+        cache: &Cache,
+        config: &Config,
+        place: u32,
+        last: u32,
+        cutoff: Micros,
+    ) -> Result<(), Memory>
+        ensures { OnOk result (self.new ≡ with_runs (known_in cache.now) self.old (runs_after config.now cutoff.0 place last)) }
+    {
+        let row = cache.row(config);
+        for done in place..last {
+            if !self.has_room() {
+                return Ok(());
+            }
+            self.add_unsettled(known_after(row, done), config, done + 1, cutoff)?;
+        }
+        Ok(())
+    }
+}

@@ -1,0 +1,152 @@
+//! What a search may need next.
+ghost use Rattle.std.specs.Prelude.{◌≡◌, ◌≤◌, ◌++◌, ◌∷◌, [], All, length, IfOk, OnOk, IfSome, IsSomeAnd};
+ghost use Rattle.objective.specs.Limits.{max_runs};
+ghost use Rattle.ils_face.specs.Replies.{Fits};
+ghost use Rattle.ils_face.specs.Traces.{question_of};
+ghost use Rattle.run_cache.specs.Caches.{known_in};
+ghost use Rattle.capping.specs.Verdicts.{verdict_of};
+ghost use Rattle.capping.specs.Decisions.{place_count, IsNeeded};
+ghost use Rattle.capping.specs.declared.verdicts.Verdict.TheVariants.{Need};
+ghost use Rattle.predictor.specs.Choices.{with_runs};
+ghost use Rattle.predictor.specs.Wishes.{turn_of, runs_ahead, wishes_at, wishes_of};
+ghost use Rattle.predictor.specs.Promises.{needed_after, IsWish, TellsMore, AreApart};
+
+use crate::choice::Choice;
+use crate::wish::Wish;
+use capping::{Verdict, decide};
+use ils_face::{Ask, Reply, Search};
+use objective::{Memory, Micros};
+use run_cache::Cache;
+use std::alloc::Global;
+
+/// The turns of a look ahead, at most.
+const TURNS: u32 = 256;
+
+/// Adds the runs that a turn finds at an ask that needs a run, and gives the reply that the
+/// search is followed by, unless the turn is the last.
+fn add_needed(
+    choice: &mut Choice,
+    cache: &Cache,
+    ask: &Ask,
+    place: u32,
+    cutoff: Micros,
+) -> Result<Option<Reply>, Memory>
+    requires { IsSomeAnd (question_of ask.now) (IsNeeded cache.now.limits (known_in cache.now) place cutoff.0) }
+    ensures runs { OnOk result (choice.new ≡ with_runs (known_in cache.now) choice.old (turn_of ask.now (Need place cutoff)).runs) }
+    ensures reply { IfOk result (λ r. r ≡ (turn_of ask.now (Need place cutoff)).reply) }
+    ensures fits { IfOk result (λ r. IfSome r (Fits ask.now)) }
+{
+    match ask {
+        Ask::Full { config, n } => {
+            choice.add(config, place, cutoff)?;
+            choice.add_after(cache, config, place, *n, cutoff)?;
+            Ok(None)
+        }
+        Ask::Versus { config, .. } => {
+            choice.add(config, place, cutoff)?;
+            Ok(Some(Reply::Exceeds))
+        }
+        Ask::End => Ok(None),
+    }
+}
+
+/// Adds the runs that a turn finds at an ask, and gives the reply that the search is followed
+/// by, unless the turn is the last.
+fn add_turn(choice: &mut Choice, cache: &Cache, ask: &Ask) -> Result<Option<Reply>, Memory>
+    requires { place_count ask.now ≤ max_runs }
+    ensures runs { OnOk result (choice.new ≡ with_runs (known_in cache.now) choice.old (turn_of ask.now (verdict_of cache.now.limits (known_in cache.now) ask.now)).runs) }
+    ensures reply { IfOk result (λ r. r ≡ (turn_of ask.now (verdict_of cache.now.limits (known_in cache.now) ask.now)).reply) }
+    ensures fits { IfOk result (λ r. IfSome r (Fits ask.now)) }
+{
+    match decide(cache, ask) {
+        Verdict::Reply(reply) => Ok(Some(reply)),
+        Verdict::Need { place, cutoff } => add_needed(choice, cache, ask, place, cutoff),
+        Verdict::Aborted { .. } | Verdict::Ended => Ok(None),
+    }
+}
+
+/// Adds the runs of at most `TURNS` turns from the present ask on, while there is room.
+fn add_turns<P: Search>(choice: &mut Choice, cache: &Cache, ahead: &mut P) -> Result<(), Memory>
+    ensures { OnOk result (choice.new ≡ with_runs (known_in cache.now) choice.old (runs_ahead (P.shown (P.rules_of ahead.old)) cache.now.limits (known_in cache.now) 256 (P.replies_of ahead.old))) }
+{
+    for _turn in 0..TURNS {
+        let Some(reply) = add_turn(choice, cache, ahead.ask())? else {
+            return Ok(());
+        };
+        if !choice.has_room() {
+            return Ok(());
+        }
+        ahead.answer(reply)?;
+    }
+    Ok(())
+}
+
+/// Adds the runs that come should the bound of the present ask be exceeded. Makes one copy of
+/// the search.
+fn look_ahead<P: Search>(choice: &mut Choice, cache: &Cache, search: &P) -> Result<(), Memory>
+    requires { Fits (P.shown (P.rules_of search.now) (P.replies_of search.now)).ask Reply.Exceeds }
+    ensures { OnOk result (choice.new ≡ with_runs (known_in cache.now) choice.old (runs_ahead (P.shown (P.rules_of search.now)) cache.now.limits (known_in cache.now) 256 (P.replies_of search.now ++ Reply.Exceeds ∷ []))) }
+{
+    let mut ahead = search.copy()?;
+    ahead.answer(Reply::Exceeds)?;
+    add_turns(choice, cache, &mut ahead)
+}
+
+/// The wishes at an ask, which is the search's present one.
+fn wishes_for<P: Search>(
+    alloc: Global,
+    search: &P,
+    cache: &Cache,
+    ask: &Ask,
+    k: u32,
+) -> Result<Vec<Wish>, Memory>
+    requires present { ask.now ≡ (P.shown (P.rules_of search.now) (P.replies_of search.now)).ask }
+    requires places { place_count ask.now ≤ max_runs }
+    ensures { IfOk result (λ w. w.items ≡ wishes_at (P.shown (P.rules_of search.now)) cache.now.limits (known_in cache.now) (P.replies_of search.now) ask.now (verdict_of cache.now.limits (known_in cache.now) ask.now) k) }
+{
+    let Verdict::Need { place, cutoff } = decide(cache, ask) else {
+        return Ok(Vec::new(alloc));
+    };
+    match ask {
+        Ask::Full { config, n } => {
+            let mut choice = Choice::new(alloc, config, place, k)?;
+            choice.add_after(cache, config, place, *n, cutoff)?;
+            Ok(choice.into_wishes())
+        }
+        Ask::Versus { config, n, .. } => {
+            let mut choice = Choice::new(alloc, config, place, k)?;
+            look_ahead(&mut choice, cache, search)?;
+            choice.add_after(cache, config, place, *n, cutoff)?;
+            Ok(choice.into_wishes())
+        }
+        Ask::End => Ok(Vec::new(alloc)),
+    }
+}
+
+/// At most k runs that may be needed after the one that is needed now, in the order in which idle
+/// seats are to make them. There are none unless a run is needed now.
+///
+/// At an ask in full they are those at the later places of its configuration. At one with a bound
+/// the search is first followed on one copy as if that bound, and each later one, were exceeded;
+/// the later places come after what is found there. The search itself is left as it was. With
+/// k = 0 nothing is looked at, and nothing copied.
+///
+/// Fails only for want of memory.
+pub fn wishes<P: Search>(
+    alloc: Global,
+    search: &P,
+    cache: &Cache,
+    k: u32,
+) -> Result<Vec<Wish>, Memory>
+    ensures value { IfOk result (λ w. w.items ≡ wishes_of (P.shown (P.rules_of search.now)) cache.now.limits (known_in cache.now) (P.replies_of search.now) k) }
+    ensures each { IfOk result (λ w. All (IsWish (P.rules_of search.now) cache.now.limits) w.items) }
+    ensures more { IfOk result (λ w. All (TellsMore (known_in cache.now) (needed_after (P.shown (P.rules_of search.now)) cache.now.limits (known_in cache.now) (P.replies_of search.now))) w.items) }
+    ensures apart { IfOk result (λ w. AreApart w.items) }
+    ensures few { IfOk result (λ w. length w.items ≤ k) }
+{
+    if k == 0 {
+        return Ok(Vec::new(alloc));
+    }
+    let _ = &cache.limits().cutoff; // its type keeps it in range
+    wishes_for(alloc, search, cache, search.ask(), k)
+}
