@@ -1,0 +1,2 @@
+//! The comparer of FocusedILS, in which each configuration gets as many runs as it is worth (Hutter et al., JAIR 36).
+#![tactic(auto)]
