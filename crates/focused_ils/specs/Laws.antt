@@ -3,3 +3,5 @@ pub mod Counting
 pub mod Tallies
 pub mod SteadyLaw
 pub mod Evaluations
+pub mod Turns
+pub mod KeepsLaw
