@@ -71,6 +71,14 @@ phase_at last (Low turn bound) = Asking (question_at last (Low turn bound))
 phase_at last (Further θ n) = Asking (question_at last (Further θ n))
 phase_at last (Compared won) = Decided won
 
+-- whether the incumbent goes first
+abbrev pub is_led : Incumbent → Place → Bool
+is_led last Opened = false
+is_led last (High turn) = is_overtaken last turn.high turn.places
+is_led last (Low turn bound) = false
+is_led last (Further θ n) = is_overtaken last θ n
+is_led last (Compared won) = false
+
 -- another configuration costs less than the incumbent on as many places as that has runs
 abbrev pub is_better : Incumbent → Settings → ℕ → ℕ → Bool
 is_better last θ n x = not (bytes_eq θ last.config) && (n == last.runs) && nat_lt x last.sum
@@ -139,32 +147,38 @@ abbrev pub place_after_turn : ℕ → Counts → ℕ → Turn → (low high : Bo
 place_after_turn max_runs counts bonus turn low high =
     if low || high then place_by (first_dominates turn low high) max_runs counts bonus (first_in turn) else next_turn max_runs turn turn.more
 
--- after a reply; nothing but a cost up to the bound is replied in full
-abbrev pub place_after : ℕ → Tally → Place → Reply → Place
-place_after max_runs t Opened r = Opened
-place_after max_runs t (High turn) (Exact x) = if is_overtaken t.last turn.high turn.places then High turn else Low turn x.0
-place_after max_runs t (High turn) Exceeds = Compared false
-place_after max_runs t (Low turn bound) r =
-    place_after_turn max_runs (raised t.counts turn.low turn.places) t.bonus turn (low_dominates t.counts turn r) (high_dominates bound r)
-place_after max_runs t (Further θ n) (Exact x) = if is_overtaken t.last θ n then Further θ n else Compared true
-place_after max_runs t (Further θ n) Exceeds = Compared false
-place_after max_runs t (Compared won) r = Compared won
+-- after a reply to what the place is for; nothing but a cost is replied in full
+abbrev pub place_next : ℕ → Counts → ℕ → Place → Reply → Place
+place_next max_runs counts bonus Opened r = Opened
+place_next max_runs counts bonus (High turn) (Exact x) = Low turn x.0
+place_next max_runs counts bonus (High turn) Exceeds = Compared false
+place_next max_runs counts bonus (Low turn bound) r = place_after_turn max_runs counts bonus turn (low_dominates counts turn r) (high_dominates bound r)
+place_next max_runs counts bonus (Further θ n) r = Compared true
+place_next max_runs counts bonus (Compared won) r = Compared won
 
--- whether the reply uses the bonus up: that to the winner's further evaluation
-abbrev pub is_used_up : Incumbent → Place → Bool
-is_used_up last Opened = false
-is_used_up last (High turn) = false
-is_used_up last (Low turn bound) = false
-is_used_up last (Further θ n) = not (is_overtaken last θ n)
-is_used_up last (Compared won) = false
+-- the bonus is used up by the winner's further evaluation
+abbrev pub bonus_next : Place → ℕ → ℕ
+bonus_next Opened bonus = bonus
+bonus_next (High turn) bonus = bonus
+bonus_next (Low turn bound) bonus = bonus
+bonus_next (Further θ n) bonus = 0
+bonus_next (Compared won) bonus = bonus
 
--- the runs and the incumbent after a reply; a count rises whatever is replied
-abbrev pub tally_after : Tally → Place → Reply → Tally
-tally_after t place r = record {
-  counts = raised t.counts (question_at t.last place).config (question_at t.last place).places;
-  last = last_after t.last (question_at t.last place) r;
-  bonus = if is_used_up t.last place then 0 else t.bonus;
+-- the tally with one more evaluation; a count rises whatever is replied
+abbrev pub tally_counted : Tally → Question → Reply → Tally
+tally_counted t q r = record {
+  counts = raised t.counts q.config q.places;
+  last = last_after t.last q r;
+  bonus = t.bonus;
 }
+
+-- the tally after a reply
+abbrev pub tally_after : Tally → Place → Reply → Tally
+tally_after t place r = record (tally_counted t (question_at t.last place) r) { bonus = if is_led t.last place then t.bonus else bonus_next place t.bonus }
+
+-- the place after a reply: the same where the incumbent went first
+abbrev pub place_after : ℕ → Tally → Place → Reply → Place
+place_after max_runs t place r = if is_led t.last place then place else place_next max_runs (raised t.counts (question_at t.last place).config (question_at t.last place).places) t.bonus place r
 
 -- ---- the begin of a comparison
 
@@ -201,14 +215,17 @@ abbrev pub replied_by : Incumbent → Question → Reply → PlainState → Plai
 replied_by last q (Exact x) s = win_where (is_better last q.config q.places x.0) q.config q.places x.0 (after_evaluation q s)
 replied_by last q Exceeds s = after_evaluation q s
 
--- no bonus is left, where it is used up
-abbrev pub cleared_where : Bool → PlainState → PlainState
-cleared_where true s = record s { bonus = 0 }
-cleared_where false s = s
+-- the bonus is used up by the winner's further evaluation
+abbrev pub cleared_at : Place → PlainState → PlainState
+cleared_at Opened s = s
+cleared_at (High turn) s = s
+cleared_at (Low turn bound) s = s
+cleared_at (Further θ n) s = record s { bonus = 0 }
+cleared_at (Compared won) s = s
 
 -- after a reply
 abbrev pub replied_at : Incumbent → Place → Reply → PlainState → PlainState
-replied_at last place r s = cleared_where (is_used_up last place) (replied_by last (question_at last place) r s)
+replied_at last place r s = if is_led last place then replied_by last (question_at last place) r s else cleared_at place (replied_by last (question_at last place) r s)
 
 -- as a comparison of this number begins
 abbrev pub started_at : Settings → Settings → ℕ → PlainState → PlainState
@@ -263,6 +280,20 @@ left_at last (High turn) = 3 * turn.more + 4 + one_where (is_overtaken last turn
 left_at last (Low turn bound) = 3 * turn.more + 3
 left_at last (Further θ n) = 1 + one_where (is_overtaken last θ n)
 left_at last (Compared won) = 0
+
+-- with one more evaluation, and the entry of a new incumbent
+abbrev pub state_counted : State → Reply → State
+state_counted c r = record c {
+  tally = tally_counted c.tally (question_at c.tally.last c.place) r;
+  entries = c.entries ++ added_by c.tally.last (question_at c.tally.last c.place) r;
+}
+
+-- at the next place
+abbrev pub state_next : State → Reply → State
+state_next c r = record c {
+  tally = record c.tally { bonus = bonus_next c.place c.tally.bonus };
+  place = place_next c.max_runs c.tally.counts c.tally.bonus c.place r;
+}
 
 -- after a reply
 abbrev pub state_after : State → Reply → State

@@ -21,12 +21,12 @@ use Rattle.ils_face.specs.declared.asks.Reply.TheVariants.{Exact, Exceeds}
 use Rattle.ils_frame.specs.Comparers.{Phase, Asking, question_in, decision_in, Advanced, GoesOn, Starts, AreCostsKnown, opened_state, Keeps}
 use Rattle.ils_frame.proofs.CountedCosts.{counts_after-known}
 use Rattle.focused_ils.specs.Counts.{Counts, count_in, no_counts, raised}
-use Rattle.focused_ils.specs.State.{Turn, Place, Opened, High, Low, Further, Compared, Tally, State, is_overtaken, one_of, in_full, question_at, phase_at, is_better, is_extended, entry, last_where, last_after, entry_where, added_by, low_dominates, high_dominates, first_in, first_dominates, place_by, next_turn, place_after_turn, after_evaluation, win_where, replied_by, cleared_where, decision_after, turns_after, coming_at, coming_in, focused_parts, state_from, first_state, first_incumbent, HasMostRuns, IsTurn, IsPlaceFit, IsFit, IsBound, StandsAt, Stands}
+use Rattle.focused_ils.specs.State.{Turn, Place, Opened, High, Low, Further, Compared, Tally, State, is_overtaken, one_of, in_full, question_at, phase_at, is_better, is_extended, entry, last_where, last_after, entry_where, added_by, low_dominates, high_dominates, first_in, first_dominates, place_by, next_turn, place_after_turn, after_evaluation, win_where, replied_by, bonus_next, cleared_at, decision_after, turns_after, coming_at, coming_in, focused_parts, state_from, first_state, first_incumbent, HasMostRuns, IsTurn, IsPlaceFit, IsFit, IsBound, StandsAt, Stands}
 use Rattle.focused_ils.specs.Laws.Counting.{count-none, raised-itself, raised-grows, raised-same}
 use Rattle.focused_ils.specs.Laws.Tallies.{not_overtaken, not_overtaken-due, better-where, extended-where, no_better-itself}
 use Rattle.focused_ils.specs.Laws.SteadyLaw.{at_question}
 use Rattle.focused_ils.specs.Laws.Evaluations.{IsIncumbent, evaluate-overtaken, evaluate-known, evaluate-unknown, evaluate-stopped}
-use Rattle.focused_ils.specs.Laws.Turns.{turn-ends, raised-at_most, begins-so}
+use Rattle.focused_ils.specs.Laws.Turns.{turn-ends, begins-so}
 
 -- ---- an evaluation with a known cost
 
@@ -140,10 +140,14 @@ module _ (sums : Sums) (t : Tally) (s : PlainState) (k : StandsFor sums t s) whe
     cost = k.cost;
   }
 
-  -- where the bonus is used up, or not
-  stands_cleared : (u : Bool) → StandsFor sums (record t { bonus = if u then 0 else t.bonus }) (cleared_where u s)
-  stands_cleared true = record { incumbent = k.incumbent; compared = k.compared; bonus = refl; counts = k.counts; known = k.known; cost = k.cost }
-  stands_cleared false = record { incumbent = k.incumbent; compared = k.compared; bonus = k.bonus; counts = k.counts; known = k.known; cost = k.cost }
+  -- at the next place, or at the same one
+  stands_next : (place : Place) (b : Bool) → StandsFor sums (record t { bonus = if b then t.bonus else bonus_next place t.bonus }) (if b then s else cleared_at place s)
+  stands_next place true = k
+  stands_next Opened false = k
+  stands_next (High turn) false = k
+  stands_next (Low turn bound) false = k
+  stands_next (Further θ i) false = record { incumbent = k.incumbent; compared = k.compared; bonus = refl; counts = k.counts; known = k.known; cost = k.cost }
+  stands_next (Compared won) false = k
 
   incumbent_so : HasMostRuns t → IsIncumbent sums t.last s
   incumbent_so f = record { config = k.incumbent; runs = k.counts t.last.config ∙ f.top; cost = k.cost }
@@ -170,7 +174,9 @@ module _ (setup : Setup) (sums : Sums) (n : ℕ) (m : setup.max_runs ≡ n) (all
   -- the one with more runs, or the incumbent before it
   high_goes : (turn : Turn) (x : ℕ) (b : Bool) → is_overtaken t.last turn.high turn.places ≡ b → sums (one_of b t.last.config turn.high) turn.places ≡ Some x
       → coming_at setup sums (High turn) s
-      ≡ coming_at setup sums (if b then High turn else Low turn x) (replied_by t.last (record { config = one_of b t.last.config turn.high; places = turn.places; bound = None }) (Exact (record { 0 = x })) s)
+      ≡ coming_at setup sums (if b then High turn else Low turn x)
+        (if b then replied_by t.last (record { config = one_of b t.last.config turn.high; places = turn.places; bound = None }) (Exact (record { 0 = x })) s
+          else replied_by t.last (record { config = one_of b t.last.config turn.high; places = turn.places; bound = None }) (Exact (record { 0 = x })) s)
   high_goes turn x true o e = rw (no_better-itself t.last turn.places x)
       (ap (λ p. goes_on (goes_on p (λ x. evaluate sums turn.low turn.places (Some x) >>= λ y. turns_after setup sums turn)) (λ u. decision_after setup sums turn)) (evaluate-overtaken sums t.last s is_incumbent turn.high turn.places None x o e))
   high_goes turn x false o e =
@@ -181,19 +187,29 @@ module _ (setup : Setup) (sums : Sums) (n : ℕ) (m : setup.max_runs ≡ n) (all
   high_bound turn x true e = tt
   high_bound turn x false e = record { cost = e; least = least_after sums t.last k.cost (record { config = turn.high; places = turn.places; bound = None }) x e }
 
+  next_advanced : (place : Place) (b : Bool) (q : Question) (r : Reply) (p : PlainState) → Advanced s p q (added_by t.last q r) → Advanced s (if b then p else cleared_at place p) q (added_by t.last q r)
+  next_advanced place true q r p a = a
+  next_advanced Opened false q r p a = a
+  next_advanced (High turn) false q r p a = a
+  next_advanced (Low turn bound) false q r p a = a
+  next_advanced (Further θ i) false q r p a = record { asks = a.asks; entries = a.entries; event = a.event }
+  next_advanced (Compared won) false q r p a = a
+
   high_replied : (turn : Turn) (x : ℕ) → cost_asked sums (question_at t.last (High turn)) ≡ Some x → GoesOnBy (High turn) (question_at t.last (High turn)) (Exact (record { 0 = x }))
   high_replied turn x e =
       let q : Question = question_at t.last (High turn) in
       record {
-        stays = with_place n sums _ _ _ _ (stands_after sums t s k q x e) (high_bound turn x (is_overtaken t.last turn.high turn.places) e);
+        stays = with_place n sums _ _ _ _ (stands_next sums _ _ (stands_after sums t s k q x e) (High turn) (is_overtaken t.last turn.high turn.places)) (high_bound turn x (is_overtaken t.last turn.high turn.places) e);
         same = high_goes turn x (is_overtaken t.last turn.high turn.places) refl e;
-        advanced = advanced_by q x t.last s (is_better t.last q.config q.places x) k.compared;
+        advanced = next_advanced (High turn) (is_overtaken t.last turn.high turn.places) q (Exact (record { 0 = x })) _ (advanced_by q x t.last s (is_better t.last q.config q.places x) k.compared);
       }
 
   -- the winner, or the incumbent before it
   further_goes : (θ : Settings) (i x : ℕ) (b : Bool) → is_overtaken t.last θ i ≡ b → sums (one_of b t.last.config θ) i ≡ Some x
       → coming_at setup sums (Further θ i) s
-      ≡ coming_at setup sums (if b then Further θ i else Compared true) (cleared_where (not b) (replied_by t.last (record { config = one_of b t.last.config θ; places = i; bound = None }) (Exact (record { 0 = x })) s))
+      ≡ coming_at setup sums (if b then Further θ i else Compared true)
+        (if b then replied_by t.last (record { config = one_of b t.last.config θ; places = i; bound = None }) (Exact (record { 0 = x })) s
+          else record (replied_by t.last (record { config = one_of b t.last.config θ; places = i; bound = None }) (Exact (record { 0 = x })) s) { bonus = 0 })
   further_goes θ i x true o e = rw (no_better-itself t.last i x, evaluate-overtaken sums t.last s is_incumbent θ i None x o e) refl
   further_goes θ i x false o e = rw (evaluate-known sums t.last s is_incumbent θ i None x o e) refl
 
@@ -201,18 +217,14 @@ module _ (setup : Setup) (sums : Sums) (n : ℕ) (m : setup.max_runs ≡ n) (all
   further_stands θ i true last = tt
   further_stands θ i false last = tt
 
-  cleared_advanced : (q : Question) (r : Reply) (u : Bool) (p : PlainState) → Advanced s p q (added_by t.last q r) → Advanced s (cleared_where u p) q (added_by t.last q r)
-  cleared_advanced q r true p a = record { asks = a.asks; entries = a.entries; event = a.event }
-  cleared_advanced q r false p a = a
-
   further_replied : (θ : Settings) (i x : ℕ) → cost_asked sums (question_at t.last (Further θ i)) ≡ Some x → GoesOnBy (Further θ i) (question_at t.last (Further θ i)) (Exact (record { 0 = x }))
   further_replied θ i x e =
       let q : Question = question_at t.last (Further θ i) in
       let o : Bool = is_overtaken t.last θ i in
       record {
-        stays = with_place n sums _ _ _ _ (stands_cleared sums _ _ (stands_after sums t s k q x e) (not o)) (further_stands θ i o (last_after t.last q (Exact (record { 0 = x }))));
+        stays = with_place n sums _ _ _ _ (stands_next sums _ _ (stands_after sums t s k q x e) (Further θ i) o) (further_stands θ i o (last_after t.last q (Exact (record { 0 = x }))));
         same = further_goes θ i x o refl e;
-        advanced = cleared_advanced q (Exact (record { 0 = x })) (not o) _ (advanced_by q x t.last s (is_better t.last q.config q.places x) k.compared);
+        advanced = next_advanced (Further θ i) o q (Exact (record { 0 = x })) _ (advanced_by q x t.last s (is_better t.last q.config q.places x) k.compared);
       }
 
   -- ---- the one that catches up
@@ -250,22 +262,21 @@ module _ (setup : Setup) (sums : Sums) (n : ℕ) (m : setup.max_runs ≡ n) (all
     low_goes : coming_at setup sums (Low turn bound) s ≡ goes_on (turns_after setup sums turn after_low) (λ u. decision_after setup sums turn)
     low_goes = ap (λ p. goes_on (goes_on p (λ y. turns_after setup sums turn)) (λ u. decision_after setup sums turn)) (evaluate-known sums t.last s is_incumbent turn.low turn.places (Some bound) x within e)
 
-    turn_goes : coming_at setup sums (Low turn bound) s ≡ coming_at setup sums (place_after_turn n counts_then t.bonus turn (nat_le (count_in t.counts turn.high) turn.places && nat_le x bound) (nat_le bound x)) after_low
+    turn_goes : coming_at setup sums (Low turn bound) s ≡ coming_at setup sums (place_after_turn n counts_then t.bonus turn (nat_le (count_in counts_then turn.high) turn.places && nat_le x bound) (nat_le bound x)) after_low
     turn_goes =
         let w : Bool = is_better t.last turn.low turn.places x in
         low_goes
         ∙ turn-ends setup sums n m counts_then t.bonus turn.low turn.high turn.places after_low (counts_after_win its_question x t.last s w t.counts k.counts) (bonus_after its_question x t.last s w ∙ k.bonus) caught_up bound x still_ahead h.cost e turn.first_is_low turn.more
-        ∙ ap (λ b. coming_at setup sums (place_after_turn n counts_then t.bonus turn (b && nat_le x bound) (nat_le bound x)) after_low) (raised-at_most t.counts turn.low turn.high turn.places)
 
     low_replied : (b : Bool) → nat_le x bound ≡ b → GoesOnBy (Low turn bound) its_question (if b then Exact (record { 0 = x }) else Exceeds)
     low_replied true u = record {
-      stays = with_place n sums _ _ _ _ (stands_after sums t s k its_question x e) (turn_stands turn (raised t.counts turn.low turn.places) (low_dominates t.counts turn (Exact (record { 0 = x }))) (high_dominates bound (Exact (record { 0 = x }))) (last_after t.last its_question (Exact (record { 0 = x }))));
-      same = turn_goes ∙ rw (u, and-true (nat_le (count_in t.counts turn.high) turn.places)) refl;
+      stays = with_place n sums _ _ _ _ (stands_after sums t s k its_question x e) (turn_stands turn (raised t.counts turn.low turn.places) (low_dominates counts_then turn (Exact (record { 0 = x }))) (high_dominates bound (Exact (record { 0 = x }))) (last_after t.last its_question (Exact (record { 0 = x }))));
+      same = turn_goes ∙ rw (u, and-true (nat_le (count_in counts_then turn.high) turn.places)) refl;
       advanced = advanced_by its_question x t.last s (is_better t.last turn.low turn.places x) k.compared;
     }
     low_replied false u = record {
       stays = with_place n sums _ _ _ _ (stands_exceeded sums t s k its_question x e) (turn_stands turn (raised t.counts turn.low turn.places) false true t.last);
-      same = turn_goes ∙ rw (not_better t.last turn.low turn.places bound x h.least u, u, and-false (nat_le (count_in t.counts turn.high) turn.places), le-leb bound x (let o : bound < x = leb-false x bound u in omega (arith, o))) refl;
+      same = turn_goes ∙ rw (not_better t.last turn.low turn.places bound x h.least u, u, and-false (nat_le (count_in counts_then turn.high) turn.places), le-leb bound x (let o : bound < x = leb-false x bound u in omega (arith, o))) refl;
       advanced = advanced_by its_question x t.last s false k.compared;
     }
 

@@ -1,5 +1,5 @@
 -- FocusedILS keeps what a comparer promises whatever fitting replies come.
-use Rattle.std.proofs.Common.{◌≡◌, ℕ, zero, suc, ◌+◌, ◌*◌, ◌≤◌, ◌<◌, ◌⊎◌, min, Bool, true, false, not, ◌||◌, List, [], ◌∷◌, ◌++◌, Option, Some, None, IsSome, IfSome, nat_le, if◌then◌else◌, refl, sym, ap, subst, arith}
+use Rattle.std.proofs.Common.{◌≡◌, ℕ, zero, suc, ◌+◌, ◌*◌, ◌≤◌, ◌<◌, ◌⊎◌, min, Bool, true, false, ◌||◌, List, [], ◌∷◌, ◌++◌, Option, Some, None, IsSome, IfSome, nat_le, if◌then◌else◌, refl, sym, ap, subst, arith}
 use Rattle.std.proofs.lemmas.List.Elements.{All-nil}
 use Rattle.param_space.specs.Space.{defaults}
 use Rattle.param_space.proofs.Soundness.{default_is_config}
@@ -104,16 +104,16 @@ module _ (allowed : Settings → Type 0) (n : ℕ) where
       q : Question
       q = question_at t.last (High turn)
       high : FitAfter t (High turn) (question_at t.last (High turn))
-      high (Exact x) fits = high_fit (last_after t.last q (Exact x)) (still_later t.last q (Exact x) f.0) t.bonus t.counts turn t.last.config x.0 (is_overtaken t.last turn.high turn.places) f.1
+      high (Exact x) fits = high_fit (last_after t.last q (Exact x)) (still_later t.last q (Exact x) f.0) (if is_overtaken t.last turn.high turn.places then t.bonus else t.bonus) t.counts turn t.last.config x.0 (is_overtaken t.last turn.high turn.places) f.1
       high Exceeds fits = absurd fits
   place_fit t (Low turn bound) f = λ r fits.
-      turn_fit (last_after t.last (question_at t.last (Low turn bound)) r) (still_later t.last (question_at t.last (Low turn bound)) r f.0) t.bonus t.counts turn t.bonus (low_dominates t.counts turn r) (high_dominates bound r) f.1 f.2
+      turn_fit (last_after t.last (question_at t.last (Low turn bound)) r) (still_later t.last (question_at t.last (Low turn bound)) r f.0) t.bonus t.counts turn t.bonus (low_dominates (raised t.counts turn.low turn.places) turn r) (high_dominates bound r) f.1 f.2
   place_fit t (Further θ m) f = further
     where
       q : Question
       q = question_at t.last (Further θ m)
       further : FitAfter t (Further θ m) (question_at t.last (Further θ m))
-      further (Exact x) fits = further_fit (last_after t.last q (Exact x)) (still_later t.last q (Exact x) f.0) (if not (is_overtaken t.last θ m) then 0 else t.bonus) t.counts t.last.config θ m (is_overtaken t.last θ m) f.1 f.2 f.3
+      further (Exact x) fits = further_fit (last_after t.last q (Exact x)) (still_later t.last q (Exact x) f.0) (if is_overtaken t.last θ m then t.bonus else 0) t.counts t.last.config θ m (is_overtaken t.last θ m) f.1 f.2 f.3
       further Exceeds fits = absurd fits
   place_fit t (Compared won) f = tt
 
@@ -131,7 +131,7 @@ module _ (allowed : Settings → Type 0) (n : ℕ) where
   tally_fit t (High turn) f p = high
     where
       high : MostAfter t (High turn) (question_at t.last (High turn))
-      high (Exact x) fits = most_in_full t turn.high turn.places t.bonus x.0 f
+      high (Exact x) fits = most_in_full t turn.high turn.places (if is_overtaken t.last turn.high turn.places then t.bonus else t.bonus) x.0 f
       high Exceeds fits = absurd fits
   tally_fit t (Low turn bound) f p = low
     where
@@ -143,7 +143,7 @@ module _ (allowed : Settings → Type 0) (n : ℕ) where
   tally_fit t (Further θ m) f p = further
     where
       further : MostAfter t (Further θ m) (question_at t.last (Further θ m))
-      further (Exact x) fits = most_in_full t θ m (if not (is_overtaken t.last θ m) then 0 else t.bonus) x.0 f
+      further (Exact x) fits = most_in_full t θ m (if is_overtaken t.last θ m then t.bonus else 0) x.0 f
       further Exceeds fits = absurd fits
   tally_fit t (Compared won) f p = tt
 
@@ -220,7 +220,7 @@ module _ (n : ℕ) where
       high (Exact x) fits = high_nearer t.last turn x.0 (is_overtaken t.last turn.high turn.places) refl
       high Exceeds fits = absurd fits
   nearer t (Low turn bound) = λ r fits.
-      turn_nearer (last_after t.last (question_at t.last (Low turn bound)) r) (raised t.counts turn.low turn.places) t.bonus turn (low_dominates t.counts turn r) (high_dominates bound r)
+      turn_nearer (last_after t.last (question_at t.last (Low turn bound)) r) (raised t.counts turn.low turn.places) t.bonus turn (low_dominates (raised t.counts turn.low turn.places) turn r) (high_dominates bound r)
   nearer t (Further θ m) = further
     where
       further : NearerAfter t (Further θ m) (question_at t.last (Further θ m))
