@@ -1,3 +1,5 @@
 pub mod Counts
 pub mod State
+pub mod Questions
+pub mod View
 pub mod Laws

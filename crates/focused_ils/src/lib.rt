@@ -1,2 +1,11 @@
-//! The comparer of FocusedILS, in which each configuration gets as many runs as it is worth (Hutter et al., JAIR 36).
+//! The comparer of FocusedILS, in which each configuration gets as many runs as it is worth
+//! (Hutter et al., JAIR 36).
 #![tactic(auto)]
+
+mod comparison;
+mod counts;
+mod evaluation;
+mod focused;
+mod step;
+
+pub use focused::Focused;

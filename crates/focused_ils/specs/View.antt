@@ -1,0 +1,70 @@
+-- The incumbent and the comparison as they are held in memory.
+use Rattle.std.specs.Prelude.{ℕ, ◌≡◌, ◌≤◌, ◌*◌, Bool, true, false, Option, None, Some, IsSome}
+use Rattle.objective.specs.Limits
+use Rattle.uncapped.specs.Procedure.{Question, Incumbent}
+use Rattle.ils_frame.specs.Comparers.{question_in}
+use Rattle.focused_ils.specs.declared.step.Step.{Step}
+use Rattle.focused_ils.specs.declared.step.Step.TheVariants as step
+use Rattle.focused_ils.specs.State.{Turn, Place, Opened, High, Low, Further, Compared, question_at, phase_at}
+
+-- the incumbent, and how far the comparison is
+pub record Held : Type 0 where
+  pub last : Incumbent
+  pub place : Place
+
+-- a turn of these evaluations
+abbrev pub turn_seen : Bool → (high low : Question) → ℕ → Turn
+turn_seen first_is_low high low more = record { first_is_low = first_is_low; low = low.config; high = high.config; places = high.places; more = more }
+
+-- the evaluation of the comparison's first configuration
+abbrev pub first_seen : Bool → (high low : Question) → Question
+first_seen true high low = low
+first_seen false high low = high
+
+-- the place with the configurations that the evaluations name
+abbrev pub place_seen : Bool → (high low : Question) → Step → Place
+place_seen first_is_low high low step.Opened = Opened
+place_seen first_is_low high low (step.High more) = High (turn_seen first_is_low high low more)
+place_seen first_is_low high low (step.Low more bound) = Low (turn_seen first_is_low high low more) bound.0
+place_seen first_is_low high low step.Further = Further (first_seen first_is_low high low).config (first_seen first_is_low high low).places
+place_seen first_is_low high low (step.Compared won) = Compared won
+
+-- an evaluation in full, and that of the incumbent on as many places
+pub record AreInFull (incumbent evaluation : Question) : Type 0 where
+  pub full : evaluation.bound ≡ None
+  pub incumbent_full : incumbent.bound ≡ None
+  pub places : incumbent.places ≡ evaluation.places
+
+-- an evaluation up to a bound, on as many places as the other one
+pub record IsUpTo (high low : Question) (bound : ℕ) : Type 0 where
+  pub places : low.places ≡ high.places
+  pub limit : low.bound ≡ Some bound
+
+-- the evaluations are those that the step asks for
+abbrev pub AreForStep : Bool → (incumbent high low : Question) → Step → Type 0
+AreForStep first_is_low incumbent high low step.Opened = Unit {0}
+AreForStep first_is_low incumbent high low (step.High more) = AreInFull incumbent high
+AreForStep first_is_low incumbent high low (step.Low more bound) = IsUpTo high low bound.0
+AreForStep first_is_low incumbent high low step.Further = AreInFull incumbent (first_seen first_is_low high low)
+AreForStep first_is_low incumbent high low (step.Compared won) = Unit {0}
+
+-- an evaluation is asked for
+abbrev pub IsAsking : Held → Type 0
+IsAsking c = IsSome (question_in (phase_at c.last c.place))
+
+-- the evaluation that is asked for
+abbrev pub asked_in : Held → Question
+asked_in c = question_at c.last c.place
+
+-- where the one that catches up is asked for, this holds of its turn
+abbrev pub IfLow : Place → (Turn → Type 0) → Type 0
+IfLow Opened P = Unit {0}
+IfLow (High turn) P = Unit {0}
+IfLow (Low turn bound) P = P turn
+IfLow (Further θ n) P = Unit {0}
+IfLow (Compared won) P = Unit {0}
+
+-- each comparison makes a win worth at most two further runs
+pub record IsBonus (compared bonus : ℕ) : Type 0 where
+  pub few : compared ≤ Limits.max_comparisons
+  pub small : bonus ≤ 2 * compared

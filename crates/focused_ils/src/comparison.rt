@@ -1,0 +1,383 @@
+//! The incumbent and the present comparison.
+ghost use Rattle.std.specs.Prelude.{ℕ, ◌≡◌, ◌+◌, min, ◌&&◌, not, false, None, IfOk, IsSome, nat_lt, nat_le, bytes_eq, if◌then◌else◌};
+ghost use Rattle.ils_face.specs.Replies.{ask_of};
+ghost use Rattle.ils_frame.specs.Comparers.{stage_of, decision_in};
+ghost use Rattle.focused_ils.specs.Counts.{Counts, count_in};
+ghost use Rattle.focused_ils.specs.State.{Turn, Opened, High, first_incumbent, first_turn, low_dominates as low_does, high_dominates as high_does, place_after_turn, is_led as led_at, is_better as better_by, is_extended, entry as entry_of, last_where, phase_at, place_next, bonus_next};
+ghost use Rattle.focused_ils.specs.View.{first_seen, IsAsking, asked_in, IfLow};
+
+use crate::counts::Counts;
+use crate::evaluation::Evaluation;
+use crate::step::Step;
+use ils_face::{Ask, Entry, Reply};
+use ils_frame::Stage;
+use objective::{Memory, Sum};
+use param_space::Config;
+use std::marker::Model;
+
+/// The incumbent with its runs, and how far the present comparison is. Each of the two
+/// configurations is kept in the ask that it is evaluated by, and the incumbent too, so that
+/// its ask is at hand where it goes first.
+#[derive(Drop)]
+pub(crate) struct Comparison {
+    /// The number of the comparison, from 1; 0 before the first.
+    compared: u32,
+    incumbent: Evaluation,
+    /// The incumbent's runs, and their total cost.
+    runs: u32,
+    sum: Sum,
+    /// Whether the one that catches up is the comparison's first.
+    first_is_low: bool,
+    /// The one with more runs.
+    high: Evaluation,
+    /// The one that catches up.
+    low: Evaluation,
+    step: Step,
+}
+
+impl Model for Comparison {
+    ghost use Rattle.focused_ils.specs.View.{Held, place_seen, AreForStep};
+
+    ghost Value = { Held };
+
+    ghost view = { λ c. record { last = record { compared = c.compared; runs = c.runs; sum = c.sum.0; config = c.incumbent.config }; place = place_seen c.first_is_low c.high c.low c.step } };
+
+    ghost invariant = { λ c. AreForStep c.first_is_low c.incumbent c.high c.low c.step };
+}
+
+/// Whether two configurations have the same value numbers.
+fn same_values(left: &[u16], right: &[u16]) -> bool
+    ensures { result ≡ bytes_eq left.now right.now }
+{
+    left == right
+}
+
+/// Whether another configuration is evaluated on more places than the incumbent has runs.
+fn is_overtaken(incumbent: &Evaluation, runs: u32, other: &Evaluation) -> bool
+    ensures { result ≡ (not (bytes_eq other.now.config incumbent.now.config) && nat_lt runs other.now.places) }
+{
+    let same = same_values(other.config().values(), incumbent.config().values());
+    !same && runs < other.places()
+}
+
+/// The evaluation of the comparison's first configuration.
+fn first_of<'a>(first_is_low: bool, high: &'a Evaluation, low: &'a Evaluation) -> &'a Evaluation
+    ensures { result.now ≡ first_seen first_is_low high.now low.now }
+{
+    if first_is_low { low } else { high }
+}
+
+/// The places of the next turn.
+fn next_places(places: u32, max_runs: u32) -> u32
+    ensures { result ≡ min (places + 1) max_runs }
+{
+    if places < max_runs {
+        places + 1
+    } else {
+        max_runs
+    }
+}
+
+/// Whether the one that catches up has as many runs by now, and costs no more.
+fn low_dominates(counts: &Counts, high: &Evaluation, reply: Reply) -> bool
+    ensures { (turn : Turn) → turn.high ≡ high.now.config → turn.places ≡ high.now.places → result ≡ low_does counts.now turn reply }
+{
+    match reply {
+        Reply::Exact(_) => counts.runs(high.config()) <= high.places(),
+        Reply::Exceeds => false,
+    }
+}
+
+/// Whether the one with more runs costs no more.
+fn high_dominates(bound: Sum, reply: Reply) -> bool
+    ensures { result ≡ high_does bound.0 reply }
+{
+    match reply {
+        Reply::Exact(sum) => bound.0 <= sum.0,
+        Reply::Exceeds => true,
+    }
+}
+
+impl Comparison {
+    /// No comparison yet, and the default without a run.
+    pub fn new(start: &Config) -> Result<Comparison, Memory>
+        ensures { IfOk result (λ c. c ≡ record { last = first_incumbent start.now; place = Opened }) }
+    {
+        Ok(Comparison {
+            compared: 0,
+            incumbent: Evaluation::new(start.copy()?, 0),
+            runs: 0,
+            sum: Sum(0),
+            first_is_low: true,
+            high: Evaluation::new(start.copy()?, 0),
+            low: Evaluation::new(start.copy()?, 0),
+            step: Step::Opened,
+        })
+    }
+
+    /// The number of the comparison, 0 before the first.
+    pub fn compared(&self) -> u32
+        ensures { result ≡ self.now.last.compared }
+    {
+        self.compared
+    }
+
+    /// The incumbent.
+    pub fn incumbent(&self) -> &Config
+        ensures { result.now ≡ self.now.last.config }
+    {
+        self.incumbent.config()
+    }
+
+    /// The number of its runs.
+    pub fn runs(&self) -> u32
+        ensures { result ≡ self.now.last.runs }
+    {
+        self.runs
+    }
+
+    /// Their total cost.
+    pub fn sum(&self) -> Sum
+        ensures { result.0 ≡ self.now.last.sum }
+    {
+        self.sum
+    }
+
+    /// How far it is.
+    pub fn stage(&self) -> Stage
+        ensures { result ≡ stage_of (phase_at self.now.last self.now.place) }
+    {
+        match self.step {
+            Step::Opened => Stage::Ready,
+            Step::High { .. } | Step::Low { .. } | Step::Further => Stage::Asking,
+            Step::Compared(won) => Stage::Decided(won),
+        }
+    }
+
+    /// Whether the incumbent goes first.
+    pub fn is_led(&self) -> bool
+        ensures { result ≡ led_at self.now.last self.now.place }
+    {
+        match self.step {
+            Step::High { .. } => is_overtaken(&self.incumbent, self.runs, &self.high),
+            Step::Further => {
+                let first = first_of(self.first_is_low, &self.high, &self.low);
+                is_overtaken(&self.incumbent, self.runs, first)
+            }
+            Step::Opened | Step::Low { .. } | Step::Compared(_) => false,
+        }
+    }
+
+    /// The evaluation that is asked for.
+    pub fn asked(&self) -> &Evaluation
+        requires { IsAsking self.now }
+        ensures { result.now ≡ asked_in self.now }
+    {
+        if self.is_led() {
+            return &self.incumbent;
+        }
+        match self.step {
+            Step::Low { .. } => &self.low,
+            Step::Further => first_of(self.first_is_low, &self.high, &self.low),
+            Step::High { .. } | Step::Opened | Step::Compared(_) => &self.high,
+        }
+    }
+
+    /// Whether this cost makes a new incumbent.
+    pub fn is_better(&self, sum: Sum) -> bool
+        requires { IsAsking self.now }
+        ensures { result ≡ better_by self.now.last (asked_in self.now).config (asked_in self.now).places sum.0 }
+    {
+        let asked = self.asked();
+        let same = same_values(asked.config().values(), self.incumbent.config().values());
+        !same && asked.places() == self.runs && sum.0 < self.sum.0
+    }
+
+    /// The entry of what is evaluated, with this cost.
+    pub fn entry(&self, sum: Sum) -> Result<Entry, Memory>
+        requires { IsAsking self.now }
+        ensures { IfOk result (λ e. e ≡ entry_of self.now.last (asked_in self.now).config (asked_in self.now).places sum.0) }
+    {
+        let asked = self.asked();
+        Ok(Entry {
+            compared: self.compared,
+            runs: asked.places(),
+            sum,
+            config: asked.config().copy()?,
+        })
+    }
+
+    /// A configuration that was evaluated with this cost becomes the incumbent.
+    pub fn renew(&mut self, config: Config, sum: Sum)
+        requires { IsAsking self.old }
+        ensures { self.new ≡ record self.old { last = entry_of self.old.last config (asked_in self.old).places sum.0 } }
+    {
+        let places = self.asked().places();
+        self.incumbent = Evaluation::new(config, places);
+        self.runs = places;
+        self.sum = sum;
+    }
+
+    /// The incumbent has more runs with this cost, where it was evaluated on more places.
+    pub fn extend(&mut self, sum: Sum)
+        requires { IsAsking self.old }
+        ensures { self.new ≡ record self.old { last = last_where false (is_extended self.old.last (asked_in self.old).config (asked_in self.old).places) self.old.last (asked_in self.old).config (asked_in self.old).places sum.0 } }
+    {
+        let asked = self.asked();
+        let places = asked.places();
+        let same = same_values(asked.config().values(), self.incumbent.config().values());
+        if same && self.runs < places {
+            self.runs = places;
+            self.sum = sum;
+        }
+    }
+
+    /// A comparison begins, and its first turn.
+    fn set_out(
+        &mut self,
+        first_is_low: bool,
+        low: Config,
+        high: Config,
+        places: u32,
+        more: u32,
+        compared: u32,
+    )
+        ensures { self.new ≡ record { last = record self.old.last { compared = compared }; place = High (record { first_is_low = first_is_low; low = low; high = high; places = places; more = more }) } }
+    {
+        self.compared = compared;
+        self.incumbent.ask_in_full(places);
+        self.first_is_low = first_is_low;
+        self.high = Evaluation::new(high, places);
+        self.low = Evaluation::new(low, places);
+        self.step = Step::High { more };
+    }
+
+    /// A comparison of this number begins, of two configurations with so many runs.
+    pub fn begin(
+        &mut self,
+        first: Config,
+        first_runs: u32,
+        second: Config,
+        second_runs: u32,
+        max_runs: u32,
+        compared: u32,
+    )
+        ensures { (counts : Counts) → first_runs ≡ count_in counts first → second_runs ≡ count_in counts second → self.new ≡ record { last = record self.old.last { compared = compared }; place = High (first_turn (nat_le (count_in counts first) (count_in counts second)) max_runs counts first second) } }
+    {
+        if first_runs <= second_runs {
+            let places = next_places(first_runs, max_runs);
+            self.set_out(true, first, second, places, max_runs, compared);
+        } else {
+            let places = next_places(second_runs, max_runs);
+            self.set_out(false, second, first, places, max_runs, compared);
+        }
+    }
+
+    /// Goes to the next place, by the reply to what was asked for.
+    pub fn go_on(&mut self, counts: &Counts, max_runs: u32, bonus: u32, reply: Reply)
+        ensures { self.new ≡ record self.old { place = place_next max_runs counts.now bonus self.old.place reply } }
+    {
+        match (self.step, reply) {
+            (Step::Opened | Step::Compared(_), _) => {}
+            (Step::High { more }, Reply::Exact(bound)) => {
+                self.low.ask_up_to(self.high.places(), bound);
+                self.step = Step::Low { more, bound };
+            }
+            (Step::High { .. }, Reply::Exceeds) => self.step = Step::Compared(false),
+            (Step::Low { more, bound }, _) => {
+                let low = low_dominates(counts, &self.high, reply);
+                let high = high_dominates(bound, reply);
+                self.end_turn(counts, max_runs, bonus, more, low, high);
+            }
+            (Step::Further, _) => self.step = Step::Compared(true),
+        }
+    }
+
+    /// After a turn: the winner's further evaluation, the end, or a further turn.
+    fn end_turn(
+        &mut self,
+        counts: &Counts,
+        max_runs: u32,
+        bonus: u32,
+        more: u32,
+        low: bool,
+        high: bool,
+    )
+        ensures { IfLow self.old.place (λ turn. more ≡ turn.more → self.new ≡ record self.old { place = place_after_turn max_runs counts.now bonus turn low high }) }
+    {
+        if !low && !high {
+            if more == 0 {
+                self.step = Step::Compared(false);
+            } else {
+                let places = next_places(self.high.places(), max_runs);
+                self.high.ask_in_full(places);
+                self.incumbent.ask_in_full(places);
+                self.step = Step::High { more: more - 1 };
+            }
+        } else if self.first_is_low && low {
+            let places = counts.runs(self.low.config()).saturating_add(bonus).min(max_runs);
+            self.low.ask_in_full(places);
+            self.incumbent.ask_in_full(places);
+            self.step = Step::Further;
+        } else if !self.first_is_low && high {
+            let places = counts.runs(self.high.config()).saturating_add(bonus).min(max_runs);
+            self.high.ask_in_full(places);
+            self.incumbent.ask_in_full(places);
+            self.step = Step::Further;
+        } else {
+            self.step = Step::Compared(false);
+        }
+    }
+
+    /// The bonus that is left after the reply: the winner's further evaluation uses it up.
+    pub fn bonus_left(&self, bonus: u32) -> u32
+        ensures { result ≡ bonus_next self.now.place bonus }
+    {
+        match self.step {
+            Step::Further => 0,
+            Step::Opened | Step::High { .. } | Step::Low { .. } | Step::Compared(_) => bonus,
+        }
+    }
+
+    /// What the comparison comes to by this reply, or nothing where an ask follows.
+    pub fn decided_by(&self, counts: &Counts, reply: Reply) -> Option<bool>
+        ensures { (max_runs bonus : ℕ) → result ≡ decision_in (phase_at self.now.last (if led_at self.now.last self.now.place then self.now.place else place_next max_runs counts.now bonus self.now.place reply)) }
+    {
+        if self.is_led() {
+            return None;
+        }
+        match (self.step, reply) {
+            (Step::Opened, _) => Some(false),
+            (Step::High { .. }, Reply::Exact(_)) => None,
+            (Step::High { .. }, Reply::Exceeds) => Some(false),
+            (Step::Low { more, bound }, _) => {
+                let low = low_dominates(counts, &self.high, reply);
+                let high = high_dominates(bound, reply);
+                let first = if self.first_is_low { low } else { high };
+                if first || (!low && !high && more > 0) {
+                    None
+                } else {
+                    Some(false)
+                }
+            }
+            (Step::Further, _) => Some(true),
+            (Step::Compared(won), _) => Some(won),
+        }
+    }
+
+    /// The same comparison.
+    pub fn copy(&self) -> Result<Comparison, Memory>
+        ensures { IfOk result (λ c. c ≡ self.now) }
+    {
+        Ok(Comparison {
+            compared: self.compared,
+            incumbent: self.incumbent.copy()?,
+            runs: self.runs,
+            sum: self.sum,
+            first_is_low: self.first_is_low,
+            high: self.high.copy()?,
+            low: self.low.copy()?,
+            step: self.step,
+        })
+    }
+}
