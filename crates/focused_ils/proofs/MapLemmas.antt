@@ -7,7 +7,10 @@ use Rattle.std.specs.Cmp.{eq_by_cmp_equiv}
 use Rattle.std.specs.Cmp.Lexicographic.{slice_cmp, nat_list_cmp_total, texts_ties}
 use Rattle.std.specs.FinMap as map
 use Rattle.std.specs.List.{AllByRecursion, IsDistinct}
-use Rattle.std.specs.Map.{lookup, keys_of}
+use Rattle.std.specs.Option.{option_or}
+use Rattle.std.specs.Map.{lookup, keys_of, update_all}
+use Rattle.std.proofs.lemmas.Cmp.{nat_list_eq_equiv}
+use Rattle.std.proofs.lemmas.Map.Made.{update_all_distinct}
 use Rattle.indexmap.specs.IndexMap.{IndexMap, insert_entry}
 use Rattle.indexmap.proofs.CallerLemmas.{insert_entry-new}
 use Rattle.uncapped.specs.Procedure.{Settings}
@@ -27,32 +30,27 @@ at-find θ (e ∷ es) = ap (λ b. cond b (Some e.1) (map.find (slice_cmp nat_cmp
 pub get-map_of : (θ : Settings) (es : Pairs) → map.get (map_of es) θ ≡ at θ es
 get-map_of θ es = map.get-from_entries nat_list_cmp_total es θ ∙ at-find θ es
 
--- the former, where it is there
-abbrev either : Option ℕ → Option ℕ → Option ℕ
-either (Some n) o = Some n
-either None o = o
-
-chosen : (b : Bool) (n : ℕ) (a o : Option ℕ) → cond b (Some n) (either a o) ≡ either (cond b (Some n) a) o
+chosen : (b : Bool) (n : ℕ) (a o : Option ℕ) → cond b (Some n) (option_or a o) ≡ option_or (cond b (Some n) a) o
 chosen true n a o = refl
 chosen false n a o = refl
 
-at-append : (θ : Settings) (es fs : Pairs) → at θ (es ++ fs) ≡ either (at θ es) (at θ fs)
+at-append : (θ : Settings) (es fs : Pairs) → at θ (es ++ fs) ≡ option_or (at θ es) (at θ fs)
 at-append θ [] fs = refl
 at-append θ (e ∷ es) fs = ap (cond (bytes_eq θ e.0) (Some e.1)) (at-append θ es fs) ∙ chosen (bytes_eq θ e.0) e.1 (at θ es) (at θ fs)
 
 -- the count of a configuration that is found, first or later, or not at all
 module _ (θ : Settings) (es fs : Pairs) (counts : Counts) (same : map_of (es ++ fs) ≡ counts) where
-  found : count_in counts θ ≡ count_of (either (at θ es) (at θ fs))
+  found : count_in counts θ ≡ count_of (option_or (at θ es) (at θ fs))
   found = ap (λ c. count_in c θ) (sym same) ∙ ap count_of (get-map_of θ (es ++ fs) ∙ at-append θ es fs)
 
   pub runs-first : (n : ℕ) → Some n ≡ at θ es → n ≡ count_in counts θ
-  runs-first n e = sym (found ∙ ap (λ o. count_of (either o (at θ fs))) (sym e))
+  runs-first n e = sym (found ∙ ap (λ o. count_of (option_or o (at θ fs))) (sym e))
 
   pub runs-later : (n : ℕ) → None ≡ at θ es → Some n ≡ at θ fs → n ≡ count_in counts θ
-  runs-later n e f = sym (found ∙ ap (λ o. count_of (either o (at θ fs))) (sym e) ∙ ap count_of (sym f))
+  runs-later n e f = sym (found ∙ ap (λ o. count_of (option_or o (at θ fs))) (sym e) ∙ ap count_of (sym f))
 
   pub runs-none : None ≡ at θ es → None ≡ at θ fs → 0 ≡ count_in counts θ
-  runs-none e f = sym (found ∙ ap (λ o. count_of (either o (at θ fs))) (sym e) ∙ ap count_of (sym f))
+  runs-none e f = sym (found ∙ ap (λ o. count_of (option_or o (at θ fs))) (sym e) ∙ ap count_of (sym f))
 
 -- ---- one count is put
 
@@ -64,7 +62,7 @@ map_of-put es fs k n put = map.same_map nat_list_cmp_total (map.slice_cmp-IsAnti
         ∙ ap (cond (bytes_eq k q) (Some n)) (get-map_of q es)))
 
 put-first : (es fs rest : Pairs) (k : Settings) (n : ℕ) → IsPut es fs k n → IsPut (es ++ rest) (fs ++ rest) k n
-put-first es fs rest k n put q = at-append q fs rest ∙ ap (λ o. either o (at q rest)) (put q) ∙ sym (chosen (bytes_eq k q) n (at q es) (at q rest)) ∙ ap (cond (bytes_eq k q) (Some n)) (sym (at-append q es rest))
+put-first es fs rest k n put q = at-append q fs rest ∙ ap (λ o. option_or o (at q rest)) (put q) ∙ sym (chosen (bytes_eq k q) n (at q es) (at q rest)) ∙ ap (cond (bytes_eq k q) (Some n)) (sym (at-append q es rest))
 
 module _ (counts : Counts) (k : Settings) (n runs most : ℕ) (is : runs ≡ count_in counts k) (greater : most ≡ max runs n) where
   raised-so : (es fs : Pairs) → map_of es ≡ counts → IsPut es fs k most → map_of fs ≡ raised counts k n
@@ -114,3 +112,14 @@ copied-more m key k v left rest new whole same taken kept distinct put =
     let absent : at k m.entries ≡ None = at-later m.entries (k, v) rest (subst (λ w. IsDistinct bytes_eq (keys_of w)) (sym so) distinct) in
     ap (λ l. l ++ rest) (put ∙ ap (λ k. insert_entry bytes_eq m.entries k v) same ∙ insert_entry-new bytes_eq m k v absent)
     ∙ append_assoc m.entries ((k, v) ∷ []) rest ∙ so
+
+-- ---- counts that come together
+
+-- where those that were looked at first were inserted among the others, the counts are the same
+pub gathered : (first others rest all : Pairs) → IsDistinct bytes_eq (keys_of first) → ((θ : Settings) → at θ all ≡ update_all bytes_eq (λ k. at k others) first θ) → rest ≡ []
+    → map_of (rest ++ all) ≡ map_of (first ++ others)
+gathered first others rest all distinct inserted none =
+    ap (λ p. map_of (p ++ all)) none
+    ∙ map.same_map nat_list_cmp_total (map.slice_cmp-IsAntisymmetric map.nat_cmp-IsAntisymmetric) (map_of all) (map_of (first ++ others))
+      (λ θ. get-map_of θ all ∙ inserted θ ∙ update_all_distinct nat_list_eq_equiv bytes_eq (λ x y. refl) (λ k. at k others) first θ distinct
+        ∙ sym (at-append θ first others) ∙ sym (get-map_of θ (first ++ others)))

@@ -80,12 +80,26 @@ impl Counts {
         }
     }
 
+    /// Where no copy is about, all counts come together.
+    fn gather(&mut self) -> Result<(), Memory>
+        ensures { self.new ≡ self.old }
+    {
+        if self.further.len() == 0 {
+            return Ok(());
+        }
+        if let Some(common) = Arc::get_mut(&mut self.common) {
+            common.append(&mut self.further)?;
+        }
+        Ok(())
+    }
+
     /// The runs of a configuration become at least n. Where there is no memory left, all is
     /// as it was.
     pub fn raise(&mut self, config: Config, n: u32) -> Result<(), Memory>
         ensures ok { OnOk result (self.new ≡ raised self.old config n) }
         ensures err { OnErr result (self.new ≡ self.old) }
     {
+        self.gather()?;
         let runs = self.runs(&config).max(n);
         if !self.further.is_empty() {
             self.further.insert(config, runs)?;
@@ -115,6 +129,7 @@ impl Counts {
         ensures counts_kept { OnErr result (self.new ≡ self.old) }
         ensures entries_kept { OnErr result (entries.new ≡ entries.old) }
     {
+        self.gather()?;
         let runs = self.runs(&config).max(n);
         if !self.further.is_empty() {
             return put(&mut self.further, config, runs, entries, entry);

@@ -1,14 +1,15 @@
-use Rattle.std.proofs.Common.{refl, sym, ◌∙◌, ◌++◌, ap}
+use Rattle.std.proofs.Common.{◌≡◌, ◌∙◌, ◌++◌, ap}
+use Rattle.focused_ils.specs.Counts.{count_in}
 use Rattle.focused_ils.proofs.MapLemmas.{map_of, raised-first, raised-later}
 use Rattle.focused_ils.proofs.counts.Counts.raise.Goals as goal
 
 pub returns-then-not-is_empty-clause-ok : goal.returns-then-not-is_empty-clause-ok
 returns-then-not-is_empty-clause-ok c =
-    raised-first c.args.self.now c.args.config c.args.n c.runs.result c.max-runs.result c.runs.ensures c.max-runs.ensures
-    c.self.inside.further.entries c.insert.new.self.entries c.self.inside.common.value.entries c.self.view_is (c.in_ok-insert.ensures.updates.0)
+    raised-first c.args.self.now c.args.config c.args.n c.runs.result c.max-runs.result (c.runs.ensures ∙ ap (λ k. count_in k c.args.config) c.gather.ensures) c.max-runs.ensures
+    c.self.inside.further.entries c.insert.new.self.entries c.self.inside.common.value.entries (c.self.view_is ∙ c.gather.ensures) (c.in_ok-insert.ensures.updates.0)
 
 pub returns-in_ok-insert-in-Some-clause-ok : goal.returns-in_ok-insert-in-Some-clause-ok
 returns-in_ok-insert-in-Some-clause-ok c =
-    raised-later c.args.self.now c.args.config c.args.n c.runs.result c.max-runs.result c.runs.ensures c.max-runs.ensures
+    raised-later c.args.self.now c.args.config c.args.n c.runs.result c.max-runs.result (c.runs.ensures ∙ ap (λ k. count_in k c.args.config) c.gather.ensures) c.max-runs.ensures
     c.self.inside.further.entries c.in-Some.common.now.entries c.insert-in-Some.new.self.entries (c.is_empty.ensures.0 c.if-not-is_empty.false)
-    (ap (λ m. map_of (c.self.inside.further.entries ++ m.entries)) c.in-Some.ensures.value ∙ c.self.view_is) (c.in_ok-insert-in-Some.ensures.updates.0)
+    (ap (λ m. map_of (c.self.inside.further.entries ++ m.entries)) c.in-Some.ensures.value ∙ c.self.view_is ∙ c.gather.ensures) (c.in_ok-insert-in-Some.ensures.updates.0)
