@@ -1,2 +1,3 @@
 mod MapLemmas
 mod Decisions
+mod LastTurns

@@ -1,14 +1,14 @@
 -- Entries of maps, one list after another, as a finite map.
-use Rattle.std.proofs.Common.{◌≡◌, ℕ, Bool, true, false, cond, List, [], ◌∷◌, ◌++◌, Option, Some, None, bytes_eq, refl, sym, ◌∙◌, ap, subst, length, max}
+use Rattle.std.proofs.Common.{◌≡◌, ℕ, Bool, true, false, cond, [], ◌∷◌, ◌++◌, Option, Some, None, bytes_eq, refl, sym, ◌∙◌, ap, subst, length, max}
 use Rattle.std.proofs.lemmas.List.{append_assoc}
 use Rattle.std.specs.Prelude.{Result, Ok, Err, OnOk}
-use Rattle.std.specs.Ordering.{nat_cmp, eq_by_cmp}
+use Rattle.std.specs.Ordering.{nat_cmp}
 use Rattle.std.specs.Cmp.{eq_by_cmp_equiv}
 use Rattle.std.specs.Cmp.Lexicographic.{slice_cmp, nat_list_cmp_total, texts_ties}
 use Rattle.std.specs.FinMap as map
 use Rattle.std.specs.List.{AllByRecursion, IsDistinct}
 use Rattle.std.specs.Option.{option_or}
-use Rattle.std.specs.Map.{lookup, keys_of, update_all}
+use Rattle.std.specs.Map.{keys_of, update_all}
 use Rattle.std.proofs.lemmas.Cmp.{nat_list_eq_equiv}
 use Rattle.std.proofs.lemmas.Map.Made.{update_all_distinct}
 use Rattle.indexmap.specs.IndexMap.{IndexMap, insert_entry}
@@ -57,9 +57,9 @@ module _ (θ : Settings) (es fs : Pairs) (counts : Counts) (same : map_of (es ++
 map_of-put : (es fs : Pairs) (k : Settings) (n : ℕ) → IsPut es fs k n → map_of fs ≡ map.insert (map_of es) k n
 map_of-put es fs k n put = map.same_map nat_list_cmp_total (map.slice_cmp-IsAntisymmetric map.nat_cmp-IsAntisymmetric) (map_of fs) (map.insert (map_of es) k n)
     (λ q. get-map_of q fs ∙ put q ∙ sym (map.get-insert nat_list_cmp_total (map_of es) k n q
-        ∙ ap (λ b. cond b (Some n) (map.get (map_of es) q)) ((eq_by_cmp_equiv nat_list_cmp_total).symm q k)
-        ∙ ap (λ b. cond b (Some n) (map.get (map_of es) q)) (sym (texts_ties k q))
-        ∙ ap (cond (bytes_eq k q) (Some n)) (get-map_of q es)))
+    ∙ ap (λ b. cond b (Some n) (map.get (map_of es) q)) ((eq_by_cmp_equiv nat_list_cmp_total).symm q k)
+    ∙ ap (λ b. cond b (Some n) (map.get (map_of es) q)) (sym (texts_ties k q))
+    ∙ ap (cond (bytes_eq k q) (Some n)) (get-map_of q es)))
 
 put-first : (es fs rest : Pairs) (k : Settings) (n : ℕ) → IsPut es fs k n → IsPut (es ++ rest) (fs ++ rest) k n
 put-first es fs rest k n put q = at-append q fs rest ∙ ap (λ o. option_or o (at q rest)) (put q) ∙ sym (chosen (bytes_eq k q) n (at q es) (at q rest)) ∙ ap (cond (bytes_eq k q) (Some n)) (sym (at-append q es rest))
@@ -121,5 +121,5 @@ pub gathered : (first others rest all : Pairs) → IsDistinct bytes_eq (keys_of 
 gathered first others rest all distinct inserted none =
     ap (λ p. map_of (p ++ all)) none
     ∙ map.same_map nat_list_cmp_total (map.slice_cmp-IsAntisymmetric map.nat_cmp-IsAntisymmetric) (map_of all) (map_of (first ++ others))
-      (λ θ. get-map_of θ all ∙ inserted θ ∙ update_all_distinct nat_list_eq_equiv bytes_eq (λ x y. refl) (λ k. at k others) first θ distinct
-        ∙ sym (at-append θ first others) ∙ sym (get-map_of θ (first ++ others)))
+    (λ θ. get-map_of θ all ∙ inserted θ ∙ update_all_distinct nat_list_eq_equiv bytes_eq (λ x y. refl) (λ k. at k others) first θ distinct
+    ∙ sym (at-append θ first others) ∙ sym (get-map_of θ (first ++ others)))

@@ -1,5 +1,5 @@
 -- An ask that is never the end, as a question.
-use Rattle.std.specs.Prelude.{ℕ, Bool, true, false, [], Option, None, Some}
+use Rattle.std.specs.Prelude.{Bool, true, false, [], None, Some}
 use Rattle.uncapped.specs.Procedure.{Question}
 use Rattle.ils_face.specs.declared.asks.Ask.{Ask}
 use Rattle.ils_face.specs.declared.asks.Ask.TheVariants.{Full, Versus, End}

@@ -1,5 +1,5 @@
 -- How far FocusedILS is with a comparison, what it asks for, and what a reply does (Hutter et al., JAIR 36).
-use Rattle.std.specs.Prelude.{ℕ, zero, suc, ◌≡◌, ◌+◌, ◌*◌, ◌≤◌, min, Bool, true, false, not, ◌&&◌, ◌||◌, ◌==◌, List, [], ◌∷◌, ◌++◌, Option, None, Some, IsSome, IfSome, nat_le, nat_lt, bytes_eq, if◌then◌else◌}
+use Rattle.std.specs.Prelude.{ℕ, zero, suc, ◌≡◌, ◌+◌, ◌*◌, ◌≤◌, min, Bool, true, false, not, ◌&&◌, ◌||◌, ◌==◌, List, [], ◌∷◌, ◌++◌, None, Some, IsSome, IfSome, nat_le, nat_lt, bytes_eq, if◌then◌else◌}
 use Rattle.param_space.specs.Space.{defaults}
 use Rattle.uncapped.specs.Procedure.{Settings, Sums, Question, Incumbent, PlainState, Procedure, ◌>>=◌, ◌>>◌, give, state, becomes}
 use Rattle.uncapped.specs.Setup.{Setup}
@@ -72,12 +72,12 @@ phase_at last (Further θ n) = Asking (question_at last (Further θ n))
 phase_at last (Compared won) = Decided won
 
 -- whether the incumbent goes first
-abbrev pub is_led : Incumbent → Place → Bool
-is_led last Opened = false
-is_led last (High turn) = is_overtaken last turn.high turn.places
-is_led last (Low turn bound) = false
-is_led last (Further θ n) = is_overtaken last θ n
-is_led last (Compared won) = false
+abbrev pub is_incumbent_first : Incumbent → Place → Bool
+is_incumbent_first last Opened = false
+is_incumbent_first last (High turn) = is_overtaken last turn.high turn.places
+is_incumbent_first last (Low turn bound) = false
+is_incumbent_first last (Further θ n) = is_overtaken last θ n
+is_incumbent_first last (Compared won) = false
 
 -- another configuration costs less than the incumbent on as many places as that has runs
 abbrev pub is_better : Incumbent → Settings → ℕ → ℕ → Bool
@@ -119,9 +119,9 @@ abbrev pub first_in : Turn → Settings
 first_in turn = one_of turn.first_is_low turn.low turn.high
 
 -- the one that catches up has as many runs by now, and costs no more
-abbrev pub low_dominates : Counts → Turn → Reply → Bool
-low_dominates counts turn (Exact y) = nat_le (count_in counts turn.high) turn.places
-low_dominates counts turn Exceeds = false
+abbrev pub low_dominates : Counts → (high : Settings) → (places : ℕ) → Reply → Bool
+low_dominates counts high n (Exact y) = nat_le (count_in counts high) n
+low_dominates counts high n Exceeds = false
 
 -- the one with more runs costs no more
 abbrev pub high_dominates : ℕ → Reply → Bool
@@ -152,7 +152,7 @@ abbrev pub place_next : ℕ → Counts → ℕ → Place → Reply → Place
 place_next max_runs counts bonus Opened r = Opened
 place_next max_runs counts bonus (High turn) (Exact x) = Low turn x.0
 place_next max_runs counts bonus (High turn) Exceeds = Compared false
-place_next max_runs counts bonus (Low turn bound) r = place_after_turn max_runs counts bonus turn (low_dominates counts turn r) (high_dominates bound r)
+place_next max_runs counts bonus (Low turn bound) r = place_after_turn max_runs counts bonus turn (low_dominates counts turn.high turn.places r) (high_dominates bound r)
 place_next max_runs counts bonus (Further θ n) r = Compared true
 place_next max_runs counts bonus (Compared won) r = Compared won
 
@@ -174,11 +174,11 @@ tally_counted t q r = record {
 
 -- the tally after a reply
 abbrev pub tally_after : Tally → Place → Reply → Tally
-tally_after t place r = record (tally_counted t (question_at t.last place) r) { bonus = if is_led t.last place then t.bonus else bonus_next place t.bonus }
+tally_after t place r = record (tally_counted t (question_at t.last place) r) { bonus = if is_incumbent_first t.last place then t.bonus else bonus_next place t.bonus }
 
 -- the place after a reply: the same where the incumbent went first
 abbrev pub place_after : ℕ → Tally → Place → Reply → Place
-place_after max_runs t place r = if is_led t.last place then place else place_next max_runs (raised t.counts (question_at t.last place).config (question_at t.last place).places) t.bonus place r
+place_after max_runs t place r = if is_incumbent_first t.last place then place else place_next max_runs (raised t.counts (question_at t.last place).config (question_at t.last place).places) t.bonus place r
 
 -- ---- the begin of a comparison
 
@@ -225,7 +225,7 @@ cleared_at (Compared won) s = s
 
 -- after a reply
 abbrev pub replied_at : Incumbent → Place → Reply → PlainState → PlainState
-replied_at last place r s = if is_led last place then replied_by last (question_at last place) r s else cleared_at place (replied_by last (question_at last place) r s)
+replied_at last place r s = if is_incumbent_first last place then replied_by last (question_at last place) r s else cleared_at place (replied_by last (question_at last place) r s)
 
 -- as a comparison of this number begins
 abbrev pub started_at : Settings → Settings → ℕ → PlainState → PlainState
@@ -351,13 +351,15 @@ pub record HasMostRuns (t : Tally) : Type 0 where
   pub most : (φ : Settings) → count_in t.counts φ ≤ t.last.runs
   pub top : count_in t.counts t.last.config ≡ t.last.runs
 
--- a turn is on some places, at least as many as the one that catches up has runs
+-- a turn is on some places, at least as many as the one that catches up has runs, and with those that may follow it
+-- comes up to the other one's runs
 pub record IsTurn (allowed : Settings → Type 0) (max_runs : ℕ) (counts : Counts) (turn : Turn) : Type 0 where
   pub low : allowed turn.low
   pub high : allowed turn.high
   pub some : 1 ≤ turn.places
   pub within : turn.places ≤ max_runs
   pub behind : count_in counts turn.low ≤ turn.places
+  pub enough : count_in counts turn.high ≤ turn.places + turn.more
 
 -- a comparison has a number from 1, and its configurations are allowed
 abbrev pub IsPlaceFit : (Settings → Type 0) → ℕ → Tally → Place → Type 0

@@ -1,11 +1,13 @@
 -- The incumbent and the comparison as they are held in memory.
-use Rattle.std.specs.Prelude.{ℕ, ◌≡◌, ◌≤◌, ◌*◌, Bool, true, false, Option, None, Some, IsSome}
+use Rattle.std.specs.Prelude.{ℕ, ◌≡◌, ◌≤◌, ◌*◌, Bool, true, false, None, Some, IsSome, nat_le, if◌then◌else◌}
 use Rattle.objective.specs.Limits
-use Rattle.uncapped.specs.Procedure.{Question, Incumbent}
+use Rattle.uncapped.specs.Procedure.{Settings, Question, Incumbent}
+use Rattle.ils_face.specs.declared.asks.Reply.{Reply}
 use Rattle.ils_frame.specs.Comparers.{question_in}
 use Rattle.focused_ils.specs.declared.step.Step.{Step}
 use Rattle.focused_ils.specs.declared.step.Step.TheVariants as step
-use Rattle.focused_ils.specs.State.{Turn, Place, Opened, High, Low, Further, Compared, question_at, phase_at}
+use Rattle.focused_ils.specs.Counts.{Counts, count_in}
+use Rattle.focused_ils.specs.State.{Turn, Place, Opened, High, Low, Further, Compared, is_incumbent_first, question_at, phase_at, is_extended, last_where, place_next, first_turn}
 
 -- the incumbent, and how far the comparison is
 pub record Held : Type 0 where
@@ -63,6 +65,21 @@ IfLow (High turn) P = Unit {0}
 IfLow (Low turn bound) P = P turn
 IfLow (Further θ n) P = Unit {0}
 IfLow (Compared won) P = Unit {0}
+
+-- where the incumbent was evaluated on more places, it has as many runs
+abbrev pub held_extended : Held → ℕ → Held
+held_extended c x = record c { last = last_where false (is_extended c.last (asked_in c).config (asked_in c).places) c.last (asked_in c).config (asked_in c).places x }
+
+-- a comparison of this number begins
+abbrev pub held_at_begin : ℕ → Counts → Held → Settings → Settings → ℕ → Held
+held_at_begin max_runs counts c θ φ m = record {
+  last = record c.last { compared = m };
+  place = High (first_turn (nat_le (count_in counts θ) (count_in counts φ)) max_runs counts θ φ);
+}
+
+-- the place that a reply leads to, by these counts
+abbrev pub place_from : ℕ → Counts → ℕ → Held → Reply → Place
+place_from max_runs counts bonus c r = if is_incumbent_first c.last c.place then c.place else place_next max_runs counts bonus c.place r
 
 -- each comparison makes a win worth at most two further runs
 pub record IsBonus (compared bonus : ℕ) : Type 0 where

@@ -3,8 +3,8 @@ ghost use Rattle.std.specs.Prelude.{ℕ, ◌≡◌, ◌+◌, min, ◌&&◌, not,
 ghost use Rattle.ils_face.specs.Replies.{ask_of};
 ghost use Rattle.ils_frame.specs.Comparers.{stage_of, decision_in};
 ghost use Rattle.focused_ils.specs.Counts.{Counts, count_in};
-ghost use Rattle.focused_ils.specs.State.{Turn, Opened, High, first_incumbent, first_turn, low_dominates as low_does, high_dominates as high_does, place_after_turn, is_led as led_at, is_better as better_by, is_extended, entry as entry_of, last_where, phase_at, place_next, bonus_next};
-ghost use Rattle.focused_ils.specs.View.{first_seen, IsAsking, asked_in, IfLow};
+ghost use Rattle.focused_ils.specs.State.{Turn, Opened, High, first_incumbent, first_turn, low_dominates as low_does, high_dominates as high_does, place_after_turn, is_incumbent_first as goes_first, is_better as better_by, is_extended, entry as entry_of, last_where, phase_at, place_next, bonus_next};
+ghost use Rattle.focused_ils.specs.View.{first_seen, IsAsking, asked_in, IfLow, held_extended, held_at_begin, place_from};
 
 use crate::counts::Counts;
 use crate::evaluation::Evaluation;
@@ -78,9 +78,16 @@ fn next_places(places: u32, max_runs: u32) -> u32
     }
 }
 
+/// The places of the winner's further evaluation.
+fn further_places(runs: u32, bonus: u32, max_runs: u32) -> u32
+    ensures { result ≡ min (runs + bonus) max_runs }
+{
+    runs.saturating_add(bonus).min(max_runs)
+}
+
 /// Whether the one that catches up has as many runs by now, and costs no more.
 fn low_dominates(counts: &Counts, high: &Evaluation, reply: Reply) -> bool
-    ensures { (turn : Turn) → turn.high ≡ high.now.config → turn.places ≡ high.now.places → result ≡ low_does counts.now turn reply }
+    ensures { result ≡ low_does counts.now high.now.config high.now.places reply }
 {
     match reply {
         Reply::Exact(_) => counts.runs(high.config()) <= high.places(),
@@ -155,8 +162,8 @@ impl Comparison {
     }
 
     /// Whether the incumbent goes first.
-    pub fn is_led(&self) -> bool
-        ensures { result ≡ led_at self.now.last self.now.place }
+    pub fn is_incumbent_first(&self) -> bool
+        ensures { result ≡ goes_first self.now.last self.now.place }
     {
         match self.step {
             Step::High { .. } => is_overtaken(&self.incumbent, self.runs, &self.high),
@@ -173,7 +180,7 @@ impl Comparison {
         requires { IsAsking self.now }
         ensures { result.now ≡ asked_in self.now }
     {
-        if self.is_led() {
+        if self.is_incumbent_first() {
             return &self.incumbent;
         }
         match self.step {
@@ -221,7 +228,7 @@ impl Comparison {
     /// The incumbent has more runs with this cost, where it was evaluated on more places.
     pub fn extend(&mut self, sum: Sum)
         requires { IsAsking self.old }
-        ensures { self.new ≡ record self.old { last = last_where false (is_extended self.old.last (asked_in self.old).config (asked_in self.old).places) self.old.last (asked_in self.old).config (asked_in self.old).places sum.0 } }
+        ensures { self.new ≡ held_extended self.old sum.0 }
     {
         let asked = self.asked();
         let places = asked.places();
@@ -242,7 +249,8 @@ impl Comparison {
         more: u32,
         compared: u32,
     )
-        ensures { self.new ≡ record { last = record self.old.last { compared = compared }; place = High (record { first_is_low = first_is_low; low = low; high = high; places = places; more = more }) } }
+        ensures { let turn : Turn = record { first_is_low = first_is_low; low = low; high = high; places = places; more = more } in
+            self.new ≡ record { last = record self.old.last { compared = compared }; place = High turn } }
     {
         self.compared = compared;
         self.incumbent.ask_in_full(places);
@@ -262,7 +270,8 @@ impl Comparison {
         max_runs: u32,
         compared: u32,
     )
-        ensures { (counts : Counts) → first_runs ≡ count_in counts first → second_runs ≡ count_in counts second → self.new ≡ record { last = record self.old.last { compared = compared }; place = High (first_turn (nat_le (count_in counts first) (count_in counts second)) max_runs counts first second) } }
+        ensures { (counts : Counts) → first_runs ≡ count_in counts first → second_runs ≡ count_in counts second
+            → self.new ≡ held_at_begin max_runs counts self.old first second compared }
     {
         if first_runs <= second_runs {
             let places = next_places(first_runs, max_runs);
@@ -303,7 +312,8 @@ impl Comparison {
         low: bool,
         high: bool,
     )
-        ensures { IfLow self.old.place (λ turn. more ≡ turn.more → self.new ≡ record self.old { place = place_after_turn max_runs counts.now bonus turn low high }) }
+        ensures { IfLow self.old.place (λ turn. more ≡ turn.more
+            → self.new ≡ record self.old { place = place_after_turn max_runs counts.now bonus turn low high }) }
     {
         if !low && !high {
             if more == 0 {
@@ -315,12 +325,12 @@ impl Comparison {
                 self.step = Step::High { more: more - 1 };
             }
         } else if self.first_is_low && low {
-            let places = counts.runs(self.low.config()).saturating_add(bonus).min(max_runs);
+            let places = further_places(counts.runs(self.low.config()), bonus, max_runs);
             self.low.ask_in_full(places);
             self.incumbent.ask_in_full(places);
             self.step = Step::Further;
         } else if !self.first_is_low && high {
-            let places = counts.runs(self.high.config()).saturating_add(bonus).min(max_runs);
+            let places = further_places(counts.runs(self.high.config()), bonus, max_runs);
             self.high.ask_in_full(places);
             self.incumbent.ask_in_full(places);
             self.step = Step::Further;
@@ -341,9 +351,9 @@ impl Comparison {
 
     /// What the comparison comes to by this reply, or nothing where an ask follows.
     pub fn decided_by(&self, counts: &Counts, reply: Reply) -> Option<bool>
-        ensures { (max_runs bonus : ℕ) → result ≡ decision_in (phase_at self.now.last (if led_at self.now.last self.now.place then self.now.place else place_next max_runs counts.now bonus self.now.place reply)) }
+        ensures { (max_runs bonus : ℕ) → result ≡ decision_in (phase_at self.now.last (place_from max_runs counts.now bonus self.now reply)) }
     {
-        if self.is_led() {
+        if self.is_incumbent_first() {
             return None;
         }
         match (self.step, reply) {

@@ -79,8 +79,16 @@ impl Evaluation {
         ensures { self.new ≡ record { config = self.old.config; places = places; bound = Some bound.0 } }
     {
         self.ask = match std::mem::replace(&mut self.ask, Ask::End) {
-            Ask::Full { config, .. } => Ask::Versus { config, n: places, bound },
-            Ask::Versus { config, .. } => Ask::Versus { config, n: places, bound },
+            Ask::Full { config, .. } => Ask::Versus {
+                config,
+                n: places,
+                bound,
+            },
+            Ask::Versus { config, .. } => Ask::Versus {
+                config,
+                n: places,
+                bound,
+            },
             Ask::End => unreachable!(),
         };
     }

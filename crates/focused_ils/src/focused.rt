@@ -3,7 +3,7 @@ ghost use Rattle.std.specs.Prelude.{◌≡◌, ◌==◌, ◌++◌, ◌∷◌, []
 ghost use Rattle.ils_face.specs.Replies.{ask_for};
 ghost use Rattle.ils_frame.specs.Comparers.{question_in};
 ghost use Rattle.focused_ils.specs.Counts.{count_in};
-ghost use Rattle.focused_ils.specs.State.{phase_at, is_led, is_better, question_at, bonus_more, state_counted, state_next};
+ghost use Rattle.focused_ils.specs.State.{phase_at, is_incumbent_first, is_better, question_at, bonus_more, state_counted, state_next};
 
 use crate::comparison::Comparison;
 use crate::counts::Counts;
@@ -76,7 +76,8 @@ impl Focused {
             Reply::Exact(sum) if self.comparison.is_better(sum) => {
                 let incumbent = config.copy()?;
                 let entry = self.comparison.entry(sum)?;
-                self.counts.raise_with(config, places, &mut self.entries, entry)?;
+                self.counts
+                    .raise_with(config, places, &mut self.entries, entry)?;
                 self.comparison.renew(incumbent, sum);
             }
             Reply::Exact(sum) => {
@@ -93,7 +94,8 @@ impl Focused {
         ensures { self.new ≡ state_next self.old reply }
     {
         let left = self.comparison.bonus_left(self.bonus);
-        self.comparison.go_on(&self.counts, self.max_runs, self.bonus, reply);
+        self.comparison
+            .go_on(&self.counts, self.max_runs, self.bonus, reply);
         self.bonus = left;
     }
 }
@@ -153,7 +155,7 @@ impl Comparer for Focused {
     }
 
     fn answer(&mut self, reply: Reply) -> Result<(), Memory> {
-        let led = self.comparison.is_led();
+        let led = self.comparison.is_incumbent_first();
         self.count(reply)?;
         if !led {
             self.go_on(reply);
@@ -165,7 +167,8 @@ impl Comparer for Focused {
         let n = self.counts.runs(&first);
         let m = self.counts.runs(&second);
         self.bonus += if n == m { 2 } else { 1 };
-        self.comparison.begin(first, n, second, m, self.max_runs, compared);
+        self.comparison
+            .begin(first, n, second, m, self.max_runs, compared);
     }
 
     fn copy(&self) -> Result<Focused, Memory> {

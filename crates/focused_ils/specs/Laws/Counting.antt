@@ -1,5 +1,5 @@
 -- Counts that rise.
-use Rattle.std.proofs.Common.{◌≡◌, ℕ, ◌≤◌, ◌<◌, Bool, true, false, cond, Option, Some, None, bytes_eq, if◌then◌else◌, refl, sym, ◌∙◌, ap, subst, arith, max}
+use Rattle.std.proofs.Common.{◌≡◌, ℕ, ◌≤◌, Bool, true, false, cond, Option, Some, bytes_eq, if◌then◌else◌, refl, sym, ◌∙◌, ap, subst, arith, max}
 use Rattle.std.proofs.lemmas.Slice.Eq.{bytes_eq-Decides}
 use Rattle.std.proofs.lemmas.Bool.{false≢true, false_from_ne_true}
 use Rattle.std.specs.Ordering.{nat_cmp, eq_by_cmp}

@@ -1,13 +1,13 @@
 -- With the replies of total costs FocusedILS does what the procedure does.
-use Rattle.std.proofs.Common.{◌≡◌, ℕ, zero, suc, ◌+◌, ◌≤◌, ◌<◌, Bool, true, false, not, ◌&&◌, ◌||◌, ◌==◌, List, [], ◌∷◌, ◌++◌, Option, Some, None, IsSome, IfSome, nat_le, nat_lt, bytes_eq, if◌then◌else◌, refl, sym, ◌∙◌, ap, arith, eq-eqb}
+use Rattle.std.proofs.Common.{◌≡◌, ℕ, zero, suc, ◌≤◌, ◌<◌, Bool, true, false, not, ◌&&◌, ◌||◌, ◌==◌, List, Some, None, IfSome, nat_le, nat_lt, bytes_eq, if◌then◌else◌, refl, sym, ◌∙◌, ap, arith, eq-eqb}
 use Rattle.std.proofs.lemmas.List.{append-nil, length_push}
-use Rattle.std.proofs.lemmas.Bool.{le-ltb, le-leb, leb-false, ltb-false, eqb-true, and_cases, not-false}
+use Rattle.std.proofs.lemmas.Bool.{le-ltb, le-leb, leb-false, ltb-false, eqb-true}
 use Rattle.std.proofs.lemmas.Slice.Eq.{bytes_eq-Decides}
 use Rattle.std.proofs.Math.Bool.{and-false, and-true}
 use Rattle.objective.specs.Costs.{Table}
 use Rattle.param_space.specs.Space.{defaults}
 use Rattle.param_space.specs.Configurations.{IsConfig}
-use Rattle.uncapped.specs.Procedure.{Settings, Sums, Question, Incumbent, PlainState, Goes, Ends, Aborted, Procedure, goes_on, ◌>>=◌, give}
+use Rattle.uncapped.specs.Procedure.{Settings, Sums, Question, Incumbent, PlainState, Goes, Ends, Aborted, goes_on, ◌>>=◌, give}
 use Rattle.uncapped.specs.Setup.{Setup}
 use Rattle.uncapped.specs.Evaluation.{after_ask, evaluate, better_focused}
 use Rattle.uncapped.specs.Uncapped.{opening_focused, at_first, last_of}
@@ -18,12 +18,12 @@ use Rattle.ils_face.specs.Follows.{sums_under}
 use Rattle.ils_face.specs.Replies.{reply_up_to, cost_asked}
 use Rattle.ils_face.specs.declared.asks.Reply.{Reply}
 use Rattle.ils_face.specs.declared.asks.Reply.TheVariants.{Exact, Exceeds}
-use Rattle.ils_frame.specs.Comparers.{Phase, Asking, question_in, decision_in, Advanced, GoesOn, Starts, AreCostsKnown, opened_state, Keeps}
+use Rattle.ils_frame.specs.Comparers.{Asking, question_in, decision_in, Advanced, GoesOn, Starts, AreCostsKnown, opened_state, Keeps}
 use Rattle.ils_frame.proofs.CountedCosts.{counts_after-known}
-use Rattle.focused_ils.specs.Counts.{Counts, count_in, no_counts, raised}
-use Rattle.focused_ils.specs.State.{Turn, Place, Opened, High, Low, Further, Compared, Tally, State, is_overtaken, one_of, in_full, question_at, phase_at, is_better, is_extended, entry, last_where, last_after, entry_where, added_by, low_dominates, high_dominates, first_in, first_dominates, place_by, next_turn, place_after_turn, after_evaluation, win_where, replied_by, bonus_next, cleared_at, decision_after, turns_after, coming_at, coming_in, focused_parts, state_from, first_state, first_incumbent, HasMostRuns, IsTurn, IsPlaceFit, IsFit, IsBound, StandsAt, Stands}
+use Rattle.focused_ils.specs.Counts.{Counts, count_in, raised}
+use Rattle.focused_ils.specs.State.{Turn, Place, Opened, High, Low, Further, Compared, Tally, State, is_overtaken, one_of, question_at, phase_at, is_better, is_extended, entry, last_where, last_after, entry_where, added_by, low_dominates, high_dominates, first_in, first_dominates, place_by, next_turn, place_after_turn, after_evaluation, win_where, replied_by, bonus_next, cleared_at, decision_after, turns_after, coming_at, coming_in, focused_parts, state_from, first_state, HasMostRuns, IsTurn, IsPlaceFit, IsFit, IsBound, StandsAt, Stands}
 use Rattle.focused_ils.specs.Laws.Counting.{count-none, raised-itself, raised-grows, raised-same}
-use Rattle.focused_ils.specs.Laws.Tallies.{not_overtaken, not_overtaken-due, better-where, extended-where, no_better-itself}
+use Rattle.focused_ils.specs.Laws.Tallies.{not_overtaken, extended-where, no_better-itself}
 use Rattle.focused_ils.specs.Laws.SteadyLaw.{at_question}
 use Rattle.focused_ils.specs.Laws.Evaluations.{IsIncumbent, evaluate-overtaken, evaluate-known, evaluate-unknown, evaluate-stopped}
 use Rattle.focused_ils.specs.Laws.Turns.{turn-ends, begins-so}
@@ -53,6 +53,7 @@ module _ (sums : Sums) (last : Incumbent) (cost : sums last.config last.runs ≡
       no_better : (b : Bool) → bytes_eq q.config last.config ≡ b → q.places ≡ last.runs → (not b && (q.places == last.runs) && nat_lt x last.sum) ≡ false → last.sum ≤ x
       no_better true t p w = let z : x ≡ last.sum = same_cost q.config ((bytes_eq-Decides q.config last.config).0 t) (ap (sums q.config) (sym p) ∙ e) in omega (arith, z)
       no_better false t p w = ltb-false x last.sum (sym (ap (λ b. b && nat_lt x last.sum) (eq-eqb q.places last.runs p)) ∙ w)
+
       at_either : (b : Bool) → is_better last q.config q.places x ≡ b → (d : Bool)
           → q.places ≡ (last_where b d last q.config q.places x).runs → (last_where b d last q.config q.places x).sum ≤ x
       at_either true w d p = omega arith
@@ -175,8 +176,8 @@ module _ (setup : Setup) (sums : Sums) (n : ℕ) (m : setup.max_runs ≡ n) (all
   high_goes : (turn : Turn) (x : ℕ) (b : Bool) → is_overtaken t.last turn.high turn.places ≡ b → sums (one_of b t.last.config turn.high) turn.places ≡ Some x
       → coming_at setup sums (High turn) s
       ≡ coming_at setup sums (if b then High turn else Low turn x)
-        (if b then replied_by t.last (record { config = one_of b t.last.config turn.high; places = turn.places; bound = None }) (Exact (record { 0 = x })) s
-          else replied_by t.last (record { config = one_of b t.last.config turn.high; places = turn.places; bound = None }) (Exact (record { 0 = x })) s)
+      (if b then replied_by t.last (record { config = one_of b t.last.config turn.high; places = turn.places; bound = None }) (Exact (record { 0 = x })) s
+      else replied_by t.last (record { config = one_of b t.last.config turn.high; places = turn.places; bound = None }) (Exact (record { 0 = x })) s)
   high_goes turn x true o e = rw (no_better-itself t.last turn.places x)
       (ap (λ p. goes_on (goes_on p (λ x. evaluate sums turn.low turn.places (Some x) >>= λ y. turns_after setup sums turn)) (λ u. decision_after setup sums turn)) (evaluate-overtaken sums t.last s is_incumbent turn.high turn.places None x o e))
   high_goes turn x false o e =
@@ -208,8 +209,8 @@ module _ (setup : Setup) (sums : Sums) (n : ℕ) (m : setup.max_runs ≡ n) (all
   further_goes : (θ : Settings) (i x : ℕ) (b : Bool) → is_overtaken t.last θ i ≡ b → sums (one_of b t.last.config θ) i ≡ Some x
       → coming_at setup sums (Further θ i) s
       ≡ coming_at setup sums (if b then Further θ i else Compared true)
-        (if b then replied_by t.last (record { config = one_of b t.last.config θ; places = i; bound = None }) (Exact (record { 0 = x })) s
-          else record (replied_by t.last (record { config = one_of b t.last.config θ; places = i; bound = None }) (Exact (record { 0 = x })) s) { bonus = 0 })
+      (if b then replied_by t.last (record { config = one_of b t.last.config θ; places = i; bound = None }) (Exact (record { 0 = x })) s
+      else record (replied_by t.last (record { config = one_of b t.last.config θ; places = i; bound = None }) (Exact (record { 0 = x })) s) { bonus = 0 })
   further_goes θ i x true o e = rw (no_better-itself t.last i x, evaluate-overtaken sums t.last s is_incumbent θ i None x o e) refl
   further_goes θ i x false o e = rw (evaluate-known sums t.last s is_incumbent θ i None x o e) refl
 
@@ -235,6 +236,7 @@ module _ (setup : Setup) (sums : Sums) (n : ℕ) (m : setup.max_runs ≡ n) (all
       at_end : (won : Bool) → StandsAt sums last (place_by won n counts t.bonus (first_in turn))
       at_end true = tt
       at_end false = tt
+
       at_either : (over : Bool) (more : ℕ) → StandsAt sums last (if over then place_by (first_dominates turn low high) n counts t.bonus (first_in turn) else next_turn n turn more)
       at_either true more = at_end (first_dominates turn low high)
       at_either false zero = tt
@@ -270,7 +272,7 @@ module _ (setup : Setup) (sums : Sums) (n : ℕ) (m : setup.max_runs ≡ n) (all
 
     low_replied : (b : Bool) → nat_le x bound ≡ b → GoesOnBy (Low turn bound) its_question (if b then Exact (record { 0 = x }) else Exceeds)
     low_replied true u = record {
-      stays = with_place n sums _ _ _ _ (stands_after sums t s k its_question x e) (turn_stands turn (raised t.counts turn.low turn.places) (low_dominates counts_then turn (Exact (record { 0 = x }))) (high_dominates bound (Exact (record { 0 = x }))) (last_after t.last its_question (Exact (record { 0 = x }))));
+      stays = with_place n sums _ _ _ _ (stands_after sums t s k its_question x e) (turn_stands turn (raised t.counts turn.low turn.places) (low_dominates counts_then turn.high turn.places (Exact (record { 0 = x }))) (high_dominates bound (Exact (record { 0 = x }))) (last_after t.last its_question (Exact (record { 0 = x }))));
       same = turn_goes ∙ rw (u, and-true (nat_le (count_in counts_then turn.high) turn.places)) refl;
       advanced = advanced_by its_question x t.last s (is_better t.last turn.low turn.places x) k.compared;
     }

@@ -1,21 +1,19 @@
 -- FocusedILS keeps what a comparer promises whatever fitting replies come.
-use Rattle.std.proofs.Common.{◌≡◌, ℕ, zero, suc, ◌+◌, ◌*◌, ◌≤◌, ◌<◌, ◌⊎◌, min, Bool, true, false, ◌||◌, List, [], ◌∷◌, ◌++◌, Option, Some, None, IsSome, IfSome, nat_le, if◌then◌else◌, refl, sym, ap, subst, arith}
-use Rattle.std.proofs.lemmas.List.Elements.{All-nil}
+use Rattle.std.proofs.Common.{◌≡◌, ℕ, zero, suc, ◌+◌, ◌*◌, ◌≤◌, ◌<◌, min, Bool, true, false, ◌||◌, [], None, IfSome, nat_le, if◌then◌else◌, refl, sym, subst, arith}
 use Rattle.param_space.specs.Space.{defaults}
 use Rattle.param_space.proofs.Soundness.{default_is_config}
 use Rattle.param_space.specs.Configurations.{IsConfig}
 use Rattle.uncapped.specs.Procedure.{Settings, Question, Incumbent}
 use Rattle.ils_face.specs.Rules.{Rules, AreRules}
 use Rattle.ils_face.specs.Replies.{Fits, ask_of}
-use Rattle.ils_face.specs.Trajectories.{newest, IsTrajectory}
 use Rattle.ils_face.proofs.Trajectories.{trajectory-none, trajectory-push, trajectory-begin}
 use Rattle.ils_face.specs.declared.asks.Reply.{Reply}
 use Rattle.ils_face.specs.declared.asks.Reply.TheVariants.{Exact, Exceeds}
 use Rattle.ils_frame.specs.Comparers.{Phase, Ready, Asking, Decided, question_in, Answered, Begun, InRange, IsSteadyComparer}
-use Rattle.focused_ils.specs.Counts.{Counts, count_in, no_counts, raised}
+use Rattle.focused_ils.specs.Counts.{Counts, count_in, raised}
 use Rattle.focused_ils.specs.State.{Turn, Place, Opened, High, Low, Further, Compared, Tally, State, is_overtaken, one_of, in_full, question_at, phase_at, last_after, first_in, first_dominates, place_by, next_turn, place_after_turn, low_dominates, high_dominates, place_after, tally_after, first_turn, one_where, left_at, focused_parts, first_incumbent, state_from, first_state, HasMostRuns, IsTurn, IsPlaceFit, IsFit}
 use Rattle.focused_ils.specs.Laws.Counting.{count-none, raised-new, raised-grows, raised-most}
-use Rattle.focused_ils.specs.Laws.Tallies.{overtaken-where, not_overtaken, not_overtaken-itself, not_overtaken-due, last-extended, last-compared, last-earned, most-kept, most-after, trajectory-after, earlier-after, entered-after}
+use Rattle.focused_ils.specs.Laws.Tallies.{overtaken-where, not_overtaken, not_overtaken-due, last-extended, last-compared, last-earned, most-kept, most-after, trajectory-after, earlier-after, entered-after}
 
 -- ---- questions
 
@@ -46,6 +44,7 @@ module _ (allowed : Settings → Type 0) (n : ℕ) where
     some = f.some;
     within = f.within;
     behind = raised-most counts θ turn.places turn.low turn.places f.behind (omega arith);
+    enough = raised-most counts θ turn.places turn.high (turn.places + turn.more) f.enough (omega arith);
   }
 
   module _ (last : Incumbent) (later : 1 ≤ last.compared) (bonus : ℕ) (counts : Counts) where
@@ -59,31 +58,42 @@ module _ (allowed : Settings → Type 0) (n : ℕ) where
     high_fit turn incumbent x false f = (later, turn-kept counts turn.high turn f, raised-new counts turn.high turn.places)
 
     -- after a turn
-    turn_fit : (turn : Turn) (worth : ℕ) (low high : Bool) → IsTurn allowed n counts turn → turn.places ≤ count_in counts turn.high
+    turn_fit : (turn : Turn) (worth : ℕ) (low high : Bool) → IsTurn allowed n counts turn → turn.places ≤ count_in counts turn.high → count_in counts turn.high ≤ n
         → IsPlaceFit allowed n (after_raise turn.low turn.places) (place_after_turn n (raised counts turn.low turn.places) worth turn low high)
-    turn_fit turn worth low high f ahead = at_either (low || high) turn.more
+    turn_fit turn worth low high f ahead few = at_either (low || high) turn.more (raised-most counts turn.low turn.places turn.high (turn.places + turn.more) f.enough (omega arith))
       where
         some : 1 ≤ turn.places
         some = f.some
+
         within : turn.places ≤ n
         within = f.within
+
+        still_few : count_in (raised counts turn.low turn.places) turn.high ≤ n
+        still_few = raised-most counts turn.low turn.places turn.high n few f.within
+
         first_some : (b : Bool) → 1 ≤ count_in (raised counts turn.low turn.places) (one_of b turn.low turn.high)
         first_some true = let r : turn.places ≤ count_in (raised counts turn.low turn.places) turn.low = raised-new counts turn.low turn.places in omega (arith, r, some)
         first_some false = let r : count_in counts turn.high ≤ count_in (raised counts turn.low turn.places) turn.high = raised-grows counts turn.low turn.places turn.high in omega (arith, r, some, ahead)
+
         at_end : (won : Bool) → IsPlaceFit allowed n (after_raise turn.low turn.places) (place_by won n (raised counts turn.low turn.places) worth (first_in turn))
         at_end true = (later, one_allowed turn.first_is_low turn.low turn.high f.low f.high, (let r = first_some turn.first_is_low in omega (arith, r, some, within)), omega arith)
         at_end false = later
-        at_either : (over : Bool) (more : ℕ) → IsPlaceFit allowed n (after_raise turn.low turn.places)
+
+        at_either : (over : Bool) (more : ℕ) → count_in (raised counts turn.low turn.places) turn.high ≤ turn.places + more → IsPlaceFit allowed n (after_raise turn.low turn.places)
             (if over then place_by (first_dominates turn low high) n (raised counts turn.low turn.places) worth (first_in turn) else next_turn n turn more)
-        at_either true more = at_end (first_dominates turn low high)
-        at_either false zero = later
-        at_either false (suc more) = (later, record {
-          low = f.low;
-          high = f.high;
-          some = omega (arith, some, within);
-          within = omega arith;
-          behind = let r : count_in (raised counts turn.low turn.places) turn.low ≤ turn.places = raised-most counts turn.low turn.places turn.low turn.places f.behind (omega arith) in omega (arith, r, within);
-        })
+        at_either true more e = at_end (first_dominates turn low high)
+        at_either false zero e = later
+        at_either false (suc more) e = (
+          later,
+          record {
+            low = f.low;
+            high = f.high;
+            some = omega (arith, some, within);
+            within = omega arith;
+            behind = let r : count_in (raised counts turn.low turn.places) turn.low ≤ turn.places = raised-most counts turn.low turn.places turn.low turn.places f.behind (omega arith) in omega (arith, r, within);
+            enough = (let h = still_few in omega (arith, e, h));
+          },
+        )
 
     -- after the reply to the winner, or to the incumbent before it
     further_fit : (incumbent θ : Settings) (m : ℕ) (b : Bool) → allowed θ → 1 ≤ m → m ≤ n
@@ -97,25 +107,27 @@ module _ (allowed : Settings → Type 0) (n : ℕ) where
   still_later : (last : Incumbent) (q : Question) (r : Reply) → 1 ≤ last.compared → 1 ≤ (last_after last q r).compared
   still_later last q r h = subst (λ m. 1 ≤ m) (sym (last-compared last q r)) h
 
-  place_fit : (t : Tally) (place : Place) → IsPlaceFit allowed n t place → IfSome (question_in (phase_at t.last place)) (FitAfter t place)
-  place_fit t Opened f = tt
-  place_fit t (High turn) f = high
+  place_fit : (t : Tally) (place : Place) → HasMostRuns t → t.last.runs ≤ n → IsPlaceFit allowed n t place → IfSome (question_in (phase_at t.last place)) (FitAfter t place)
+  place_fit t Opened m few f = tt
+  place_fit t (High turn) m few f = high
     where
       q : Question
       q = question_at t.last (High turn)
+
       high : FitAfter t (High turn) (question_at t.last (High turn))
       high (Exact x) fits = high_fit (last_after t.last q (Exact x)) (still_later t.last q (Exact x) f.0) (if is_overtaken t.last turn.high turn.places then t.bonus else t.bonus) t.counts turn t.last.config x.0 (is_overtaken t.last turn.high turn.places) f.1
       high Exceeds fits = absurd fits
-  place_fit t (Low turn bound) f = λ r fits.
-      turn_fit (last_after t.last (question_at t.last (Low turn bound)) r) (still_later t.last (question_at t.last (Low turn bound)) r f.0) t.bonus t.counts turn t.bonus (low_dominates (raised t.counts turn.low turn.places) turn r) (high_dominates bound r) f.1 f.2
-  place_fit t (Further θ m) f = further
+  place_fit t (Low turn bound) m few f = λ r fits.
+      turn_fit (last_after t.last (question_at t.last (Low turn bound)) r) (still_later t.last (question_at t.last (Low turn bound)) r f.0) t.bonus t.counts turn t.bonus (low_dominates (raised t.counts turn.low turn.places) turn.high turn.places r) (high_dominates bound r) f.1 f.2 (let h : count_in t.counts turn.high ≤ t.last.runs = m.most turn.high in omega (arith, h, few))
+  place_fit t (Further θ i) m few f = further
     where
       q : Question
-      q = question_at t.last (Further θ m)
-      further : FitAfter t (Further θ m) (question_at t.last (Further θ m))
-      further (Exact x) fits = further_fit (last_after t.last q (Exact x)) (still_later t.last q (Exact x) f.0) (if is_overtaken t.last θ m then t.bonus else 0) t.counts t.last.config θ m (is_overtaken t.last θ m) f.1 f.2 f.3
+      q = question_at t.last (Further θ i)
+
+      further : FitAfter t (Further θ i) (question_at t.last (Further θ i))
+      further (Exact x) fits = further_fit (last_after t.last q (Exact x)) (still_later t.last q (Exact x) f.0) (if is_overtaken t.last θ i then t.bonus else 0) t.counts t.last.config θ i (is_overtaken t.last θ i) f.1 f.2 f.3
       further Exceeds fits = absurd fits
-  place_fit t (Compared won) f = tt
+  place_fit t (Compared won) m few f = tt
 
   -- ---- the runs
 
@@ -137,6 +149,7 @@ module _ (allowed : Settings → Type 0) (n : ℕ) where
     where
       few : turn.places ≤ t.last.runs
       few = let a : turn.places ≤ count_in t.counts turn.high = p.2 in let m : count_in t.counts turn.high ≤ t.last.runs = f.most turn.high in omega (arith, a, m)
+
       low : MostAfter t (Low turn bound) (question_at t.last (Low turn bound))
       low (Exact x) fits = most-after t f turn.low turn.places t.bonus x.0 (not_overtaken t.last turn.low turn.places few)
       low Exceeds fits = most-kept t f turn.low turn.places t.bonus few
@@ -160,10 +173,14 @@ module _ (allowed : Settings → Type 0) (n : ℕ) where
 
   module _ (t : Tally) (fit : HasMostRuns t) (few : t.last.runs ≤ n) (some : 1 ≤ n) (θ φ : Settings) (s : allowed θ) (u : allowed φ) where
     first_turn_fit : (b : Bool) → IsTurn allowed n t.counts (first_turn b n t.counts θ φ)
-    first_turn_fit true = let m : count_in t.counts θ ≤ t.last.runs = fit.most θ in
-        record { low = s; high = u; some = omega (arith, some); within = omega arith; behind = omega (arith, m, few) }
-    first_turn_fit false = let m : count_in t.counts φ ≤ t.last.runs = fit.most φ in
-        record { low = u; high = s; some = omega (arith, some); within = omega arith; behind = omega (arith, m, few) }
+    first_turn_fit true =
+        let m : count_in t.counts θ ≤ t.last.runs = fit.most θ in
+        let k : count_in t.counts φ ≤ t.last.runs = fit.most φ in
+        record { low = s; high = u; some = omega (arith, some); within = omega arith; behind = omega (arith, m, few); enough = omega (arith, k, few) }
+    first_turn_fit false =
+        let m : count_in t.counts φ ≤ t.last.runs = fit.most φ in
+        let k : count_in t.counts θ ≤ t.last.runs = fit.most θ in
+        record { low = u; high = s; some = omega (arith, some); within = omega arith; behind = omega (arith, m, few); enough = omega (arith, k, few) }
 
   few_at_begin : (last : Incumbent) (counts : Counts) (θ φ : Settings) (b : Bool) → left_at last (High (first_turn b n counts θ φ)) ≤ 8 * n + 16
   few_at_begin last counts θ φ true = at_either (is_overtaken last φ (min (count_in counts θ + 1) n))
@@ -207,6 +224,7 @@ module _ (n : ℕ) where
       at_end : (won : Bool) → left_at last (place_by won n counts bonus (first_in turn)) < 3
       at_end true = let w : one_where (is_overtaken last (first_in turn) (min (count_in counts (first_in turn) + bonus) n)) ≤ 1 = few_where _ in omega (arith, w)
       at_end false = omega arith
+
       at_either : (over : Bool) (more : ℕ) → left_at last (if over then place_by (first_dominates turn low high) n counts bonus (first_in turn) else next_turn n turn more) < 3 * more + 3
       at_either true more = let h : left_at last (place_by (first_dominates turn low high) n counts bonus (first_in turn)) < 3 = at_end (first_dominates turn low high) in omega (arith, h)
       at_either false zero = omega arith
@@ -220,7 +238,7 @@ module _ (n : ℕ) where
       high (Exact x) fits = high_nearer t.last turn x.0 (is_overtaken t.last turn.high turn.places) refl
       high Exceeds fits = absurd fits
   nearer t (Low turn bound) = λ r fits.
-      turn_nearer (last_after t.last (question_at t.last (Low turn bound)) r) (raised t.counts turn.low turn.places) t.bonus turn (low_dominates (raised t.counts turn.low turn.places) turn r) (high_dominates bound r)
+      turn_nearer (last_after t.last (question_at t.last (Low turn bound)) r) (raised t.counts turn.low turn.places) t.bonus turn (low_dominates (raised t.counts turn.low turn.places) turn.high turn.places r) (high_dominates bound r)
   nearer t (Further θ m) = further
     where
       further : NearerAfter t (Further θ m) (question_at t.last (Further θ m))
@@ -258,7 +276,7 @@ module _ (n : ℕ) (allowed : Settings → Type 0) where
         runs = f.runs;
         some = f.some;
         tally = at_question (focused_parts.phase c) (MostAfter allowed n c.tally c.place) (tally_fit allowed n c.tally c.place f.tally f.place) q e r fits;
-        place = rw f.runs (at_question (focused_parts.phase c) (FitAfter allowed n c.tally c.place) (place_fit allowed n c.tally c.place f.place) q e r fits);
+        place = rw f.runs (at_question (focused_parts.phase c) (FitAfter allowed n c.tally c.place) (place_fit allowed n c.tally c.place f.tally f.trajectory.runs f.place) q e r fits);
         trajectory = trajectory-after n allowed c.tally.last c.entries (question_at c.tally.last c.place) r there.config there.within f.earlier f.trajectory;
         entered = entered-after n allowed c.tally.last c.entries (question_at c.tally.last c.place) r f.entered;
         earlier = earlier-after n allowed c.tally.last c.entries (question_at c.tally.last c.place) r f.earlier;

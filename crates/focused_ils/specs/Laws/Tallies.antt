@@ -1,5 +1,5 @@
 -- The runs, the incumbent and the entries after an evaluation in which the incumbent isn't overtaken.
-use Rattle.std.proofs.Common.{◌≡◌, ℕ, ◌≤◌, ◌<◌, ◌⊎◌, inl, inr, Bool, true, false, not, ◌&&◌, ◌==◌, List, [], ◌∷◌, ◌++◌, Option, Some, None, IsSome, IfSome, nat_le, nat_lt, bytes_eq, refl, sym, ◌∙◌, ap, subst, arith, max}
+use Rattle.std.proofs.Common.{◌≡◌, ℕ, ◌≤◌, ◌<◌, ◌⊎◌, inl, inr, Bool, true, false, not, ◌&&◌, ◌==◌, List, ◌++◌, Option, Some, None, IsSome, IfSome, nat_lt, bytes_eq, refl, sym, ◌∙◌, ap, subst, arith, max}
 use Rattle.std.proofs.lemmas.List.{append-nil}
 use Rattle.std.proofs.lemmas.Bool.{le-ltb, ltb-true, ltb-false, lt-ltb, eqb-true, false≢true}
 use Rattle.std.proofs.Math.Bool.{and-false}
@@ -10,7 +10,7 @@ use Rattle.ils_face.proofs.Trajectories.{newest-push, trajectory-push}
 use Rattle.ils_face.specs.declared.asks.Reply.{Reply}
 use Rattle.ils_face.specs.declared.asks.Reply.TheVariants.{Exact, Exceeds}
 use Rattle.ils_frame.specs.Comparers.{SameIncumbent, NewIncumbent}
-use Rattle.focused_ils.specs.Counts.{Counts, count_in, raised}
+use Rattle.focused_ils.specs.Counts.{count_in, raised}
 use Rattle.focused_ils.specs.State.{Tally, is_overtaken, one_of, is_better, is_extended, entry, last_where, last_after, entry_where, added_by, HasMostRuns}
 use Rattle.focused_ils.specs.Laws.Counting.{same_config, is_itself, other_way, raised-itself, raised-other, raised-most}
 
@@ -186,6 +186,7 @@ module _ (most : ℕ) (allowed : Settings → Type 0) (last : Incumbent) where
       more : (o : Option Incumbent) (n : ℕ) → last.runs < n → IfSome o (λ e. e.runs ≤ last.runs) → IfSome o (λ e. e.runs ≤ n)
       more None n l h = tt
       more (Some e) n l h = omega (arith, l, h)
+
       at_either : (b e : Bool) → is_extended last q.config q.places ≡ e
           → IsEarlier (entries ++ entry_where b (entry last q.config q.places x.0)) (last_where b e last q.config q.places x.0)
       at_either true e w = subst (λ (o : Option Incumbent). IfSome o (λ e. e.runs ≤ q.places)) (sym (newest-push entries (entry last q.config q.places x.0))) (le_refl q.places)

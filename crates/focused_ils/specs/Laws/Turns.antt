@@ -1,14 +1,11 @@
 -- The end of a turn, and the begin of a comparison, in the procedure.
-use Rattle.std.proofs.Common.{◌≡◌, ℕ, zero, suc, ◌+◌, ◌≤◌, ◌<◌, min, max, Bool, true, false, ◌&&◌, ◌||◌, ◌==◌, Option, Some, None, nat_le, bytes_eq, if◌then◌else◌, refl, sym, ◌∙◌, ap, arith}
-use Rattle.std.proofs.lemmas.Bool.{le-leb, leb-true, leb-false}
-use Rattle.std.proofs.Math.Bool.{and-false}
-use Rattle.std.proofs.Math.Nat.{le_refl}
-use Rattle.uncapped.specs.Procedure.{Settings, Sums, PlainState, Goes, goes_on}
+use Rattle.std.proofs.Common.{◌≡◌, ℕ, zero, suc, ◌≤◌, Bool, true, false, ◌&&◌, Some, nat_le, refl, arith}
+use Rattle.std.proofs.lemmas.Bool.{le-leb, leb-true}
+use Rattle.uncapped.specs.Procedure.{Settings, Sums, PlainState, goes_on}
 use Rattle.uncapped.specs.Setup.{Setup}
 use Rattle.uncapped.specs.Evaluation.{is_at_most, dominates, catch_up, better_focused}
-use Rattle.focused_ils.specs.Counts.{Counts, count_in, raised}
-use Rattle.focused_ils.specs.State.{Turn, Place, High, place_after_turn, first_turn, bonus_more, started_at, decision_after, turns_after, coming_at}
-use Rattle.focused_ils.specs.Laws.Counting.{same_config, raised-itself, raised-other}
+use Rattle.focused_ils.specs.Counts.{Counts, count_in}
+use Rattle.focused_ils.specs.State.{Turn, High, place_after_turn, first_turn, started_at, decision_after, turns_after, coming_at}
 
 -- ---- a turn's end
 
@@ -53,17 +50,6 @@ module _ (setup : Setup) (sums : Sums) (n : ℕ) (m : setup.max_runs ≡ n) (cou
         → goes_on (turns_after setup sums (its_turn first_is_low more) s) (λ u. decision_after setup sums (its_turn first_is_low more))
         ≡ coming_at setup sums (place_after_turn n counts bonus (its_turn first_is_low more) (nat_le (count_in counts high) i && nat_le y x) (nat_le x y)) s
     turn-ends first_is_low more = over first_is_low (nat_le (count_in counts high) i && nat_le y x) (nat_le x y) more low_dominates_so high_dominates_so
-
--- a count that rises to n was at most n where it is so now
-pub raised-at_most : (counts : Counts) (θ φ : Settings) (n : ℕ) → nat_le (count_in (raised counts θ n) φ) n ≡ nat_le (count_in counts φ) n
-raised-at_most counts θ φ n = at_either (bytes_eq φ θ) refl
-  where
-    greater : (a : ℕ) (t : Bool) → nat_le a n ≡ t → nat_le (max a n) n ≡ t
-    greater a true e = let h : a ≤ n = leb-true a n e in le-leb (max a n) n (omega (arith, h))
-    greater a false e = let h : n < a = leb-false a n e in let g : max a n ≡ a = omega (arith, h) in ap (λ k. nat_le k n) g ∙ e
-    at_either : (t : Bool) → bytes_eq φ θ ≡ t → nat_le (count_in (raised counts θ n) φ) n ≡ nat_le (count_in counts φ) n
-    at_either true e = rw (same_config φ θ e, raised-itself counts θ n) (greater (count_in counts θ) (nat_le (count_in counts θ) n) refl)
-    at_either false e = ap (λ k. nat_le k n) (raised-other counts θ n φ e)
 
 -- ---- the begin of a comparison
 

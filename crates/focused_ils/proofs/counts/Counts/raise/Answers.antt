@@ -1,4 +1,4 @@
-use Rattle.std.proofs.Common.{◌≡◌, ◌∙◌, ◌++◌, ap}
+use Rattle.std.proofs.Common.{◌∙◌, ◌++◌, ap}
 use Rattle.focused_ils.specs.Counts.{count_in}
 use Rattle.focused_ils.proofs.MapLemmas.{map_of, raised-first, raised-later}
 use Rattle.focused_ils.proofs.counts.Counts.raise.Goals as goal
