@@ -42,7 +42,7 @@ stated_by call given problem e h = record {
 -- words that are no call
 pub ending_misused : (call : Call) (out out' : SinkTold) (result : Status) (e : WordFault) → IsFound (place_of e) (words_read call.words)
     → ReportsMisuse e out out' result → Conducted call out out' result
-ending_misused call out out' result (word_fault.At place) cause said = reported call out out' result (status.Usage place) _ cause refl said
+ending_misused call out out' result (word_fault.At place) cause said = reported call out out' result (status.Usage place) _ cause tt refl said
 ending_misused call out out' result word_fault.Memory cause said = without_memory call out out' result said
 
 -- files that make no problem
@@ -52,11 +52,11 @@ pub ending_refused : (call : Call) (out out' : SinkTold) (result : Status) (e : 
 ending_refused call out out' result (refusal.BadFile kind name line what) given e cause said =
     let first = by_call call.words given call.files.contents problem_by (Bad kind name line what) e cause in
     let bad : IsBadFile call kind line what = record { name = name; called = record { given = given; reads = e }; first = first } in
-    reported call out out' result (status.BadFile kind line what) _ bad (record { name = name; first = first; same = refl }) said
+    reported call out out' result (status.BadFile kind line what) _ bad tt (record { name = name; first = first; same = refl }) said
 ending_refused call out out' result (refusal.ReadFault kind name) given e cause said =
     let next = by_call call.words given call.files.contents (λ c w. file_by c w kind) (Reads name) e cause.1 in
     let unread : IsUnread call kind = record { name = name; called = record { given = given; reads = e }; next = next; rose = cause.0 } in
-    reported call out out' result (status.ReadFault kind) _ unread (record { name = name; next = next; same = refl }) said
+    reported call out out' result (status.ReadFault kind) _ unread tt (record { name = name; next = next; same = refl }) said
 ending_refused call out out' result refusal.Memory given e cause said = without_memory call out out' result said
 
 -- a problem with too few seats
@@ -65,13 +65,13 @@ pub ending_unseated : (call : Call) (out out' : SinkTold) (result : Status) (pro
     → Reported out out' result (status.TooFewSeats asked seats) (seats_line asked seats) → Conducted call out out' result
 ending_unseated call out out' result problem asked seats stated workers all fewer said =
     reported call out out' result (status.TooFewSeats asked seats) _
-    (record { problem = problem; stated = stated; workers = workers; all = sym all; fewer = fewer }) refl said
+    (record { problem = problem; stated = stated; workers = workers; all = sym all; fewer = fewer }) tt refl said
 
 -- FocusedILS is asked for
 pub ending_focused : (call : Call) (out out' : SinkTold) (result : Status) (problem : Problem) → StatesProblem call.words call.files problem
     → IsSeated (length call.seats) problem → problem.approach ≡ Focused → Said out out' status.Unbuilt result unbuilt_line → Conducted call out out' result
 ending_focused call out out' result problem stated seated is said =
-    record { end = status.Unbuilt; text = unbuilt_line; cause = record { problem = problem; stated = stated; seated = seated; focused = is }; wanted = refl; said = said }
+    record { end = status.Unbuilt; text = unbuilt_line; cause = record { problem = problem; stated = stated; seated = seated; focused = is }; starts = tt; wanted = refl; said = said }
 
 first_of : (seats : List SpawnerTold) (d : SpawnerTold) → 0 < length seats → slice_get seats 0 ≡ Some (get_or seats 0 d)
 first_of [] d some = absurd (omega arith)

@@ -1,4 +1,8 @@
-mod Costs
+mod FirstEntries
+mod RunsSoFar
+mod AskedCells
+mod NeededCells
+mod ShownAnswers
 mod SaidTexts
 mod PresentAsks
 mod RunEndings

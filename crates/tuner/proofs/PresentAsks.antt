@@ -1,5 +1,5 @@
 -- What is known of a search at its present ask, and once that is met.
-use Rattle.std.proofs.Common.{◌≡◌, ◌<◌, Bool, false, Result, Ok, Err, List, [], ◌∷◌, ◌++◌, sym, subst, ◌∙◌}
+use Rattle.std.proofs.Common.{◌≡◌, ◌<◌, Bool, false, Result, Ok, Err, List, [], ◌∷◌, ◌++◌, sym, ap, subst, ◌∙◌}
 use Rattle.std.specs.Prelude.{IsSomeAnd, OnOk, is_err}
 use Rattle.objective.specs.Costs.{Table}
 use Rattle.uncapped.specs.Procedure.{Sums}
@@ -12,9 +12,9 @@ use Rattle.ils_face.specs.Rules.{Rules, AreRules}
 use Rattle.ils_face.specs.Views.{View, AreFitting}
 use Rattle.ils_face.specs.Steady.{IsSteady, IsAsk}
 use Rattle.ils_face.specs.Follows.{Follows, sums_under}
-use Rattle.ils_face.specs.Traces.{question_of, IsReplyBy, IsUnknown, IsTraced, IsFinal, IsStopped}
-use Rattle.ils_face.proofs.Traces.{traced_first, traced_on, traced_final, traced_stopped}
-use Rattle.tuner.specs.SearchEnds.{IsSearched}
+use Rattle.ils_face.specs.Traces.{question_of, IsReplyBy, IsTraced, IsFinal}
+use Rattle.ils_face.proofs.Traces.{asked_next, traced_first, traced_on, traced_final}
+use Rattle.tuner.specs.SearchEnds.{IsSearched, next_ask}
 
 -- the ask is shown under these rules after these replies, which fit
 pub record IsPresent (shown : Rules → List Reply → View) (rules : Rules) (replies : List Reply) (ask : Ask) : Type 0 where
@@ -73,13 +73,12 @@ pub present_final : (shown : Rules → List Reply → View) (rules : Rules) (rep
 present_final shown rules replies ask plain T follows h traced over =
     traced_final (shown rules) (sums_under rules T) (plain rules T) replies (follows rules T h.ruled) traced (sym h.value ∙ over)
 
--- a total cost that isn't known
-pub present_stopped : (shown : Rules → List Reply → View) (rules : Rules) (replies : List Reply) (ask : Ask) (plain : Rules → Table → Run) (T : Table)
+-- it is the procedure's next one
+pub present_asked : (shown : Rules → List Reply → View) (rules : Rules) (replies : List Reply) (ask : Ask) (plain : Rules → Table → Run) (T : Table)
     → ((r : Rules) (t : Table) → AreRules r → Follows (shown r) (sums_under r t) (plain r t)) → IsPresent shown rules replies ask
-    → IsTraced (sums_under rules T) (plain rules T) replies → IsSomeAnd (question_of ask) (IsUnknown (sums_under rules T)) → IsStopped (shown rules replies) (plain rules T)
-present_stopped shown rules replies ask plain T follows h traced by =
-    let F : Ask → Type 0 = λ a. IsSomeAnd (question_of a) (IsUnknown (sums_under rules T)) in
-    traced_stopped (shown rules) (sums_under rules T) (plain rules T) replies (follows rules T h.ruled) traced (subst F h.value by)
+    → IsTraced (sums_under rules T) (plain rules T) replies → question_of ask ≡ next_ask (plain rules T) replies
+present_asked shown rules replies ask plain T follows h traced =
+    ap question_of h.value ∙ asked_next (shown rules) (sums_under rules T) (plain rules T) replies (follows rules T h.ruled) traced
 
 -- before the first reply
 pub traced_none : (sums : Sums) (run : Run) (replies : List Reply) → replies ≡ [] → IsTraced sums run replies

@@ -14,6 +14,7 @@ use Rattle.uncapped.specs.Uncapped.{Run}
 use Rattle.uncapped.proofs.KnownCosts.{finishes}
 use Rattle.scenario_files.specs.declared.draft.Approach.TheVariants.{Basic, Focused}
 use Rattle.tuner.specs.Calls.{Call, IsMisused, IsCalled, StatesProblem, IsSeated}
+use Rattle.tuner.specs.CallStarts.{StartsDue, StartsOf}
 use Rattle.tuner.specs.Causes.{CauseOf, IsBadFile, IsTooFew}
 use Rattle.tuner.specs.Lines.{all_lines, end_line, output_of, usage_line, bad_file_line, read_fault_line, seats_line, unbuilt_line, no_memory_line, aborted_line, child_fault_line}
 use Rattle.tuner.specs.PrintedTexts.{IsSearchText, IsAbortedText, IsNoMemoryText, alone, after_entries, IsTextOf, Said, whole, unwritten, no_memory, Ending}
@@ -23,7 +24,7 @@ use Rattle.tuner.specs.Promises.{Conducted, IsPrinted, IsUnabortedOutput, IsAbor
 use Rattle.tuner.specs.Readings.{Reading, Reads, Misused, Bad, words_reading, problem_by, problem_of, ◌>>=◌}
 use Rattle.tuner.specs.SearchEnds.{RanTo, true_run}
 use Rattle.tuner.proofs.RunEndings.{grows_all}
-use Rattle.tuner.specs.declared.cell.Cell.{Cell}
+use Rattle.run_cache.specs.declared.cell.Cell.{Cell}
 use Rattle.tuner.specs.declared.status.FileKind.{FileKind}
 use Rattle.tuner.specs.declared.status.What.{What}
 use Rattle.tuner.specs.declared.status.Status.{Status}
@@ -47,6 +48,15 @@ said_badly call out out' end result text wanted (whole same taken) e =
     absurd (subst P (sym same ∙ e) wanted)
 said_badly call out out' end result text wanted (unwritten same part bad) e = bad
 said_badly call out out' end result text wanted (no_memory same part) e = absurd (let no = sym same ∙ e in cc)
+
+said_starts : (call : Call) (out out' : SinkTold) (end result : Status) (text : List ℕ) → StartsOf call end → Said out out' end result text → StartsOf call result
+said_starts call out out' end result text starts (whole same taken) = subst (StartsOf call) (sym same) starts
+said_starts call out out' end result text starts (unwritten same part bad) = subst (StartsOf call) (sym same) tt
+said_starts call out out' end result text starts (no_memory same part) = subst (StartsOf call) (sym same) tt
+
+-- what was started
+pub starts_of : (call : Call) (out out' : SinkTold) (result : Status) → Conducted call out out' result → result ≡ status.Ok → StartsDue call
+starts_of call out out' result h ok = subst (StartsOf call) ok (said_starts call out out' h.end result h.text h.starts h.said)
 
 -- WriteFault comes of the output
 pub badly_written : (call : Call) (out out' : SinkTold) (result : Status) → Conducted call out out' result → result ≡ status.WriteFault → WroteBadly out out'
@@ -74,8 +84,9 @@ printed_text words files truth out out' text h taken =
       last = h.last;
       searched = h.trajectory.searched;
       printed = lines;
-      finished = λ some. (h.trajectory.told some).finished;
-      told = λ some. subst (Took out out') (same_output space (true_run truth h.problem) h.entries h.last (h.trajectory.told some)) lines;
+      finished = λ some never. finishes (procedure_of h.problem.approach) (problem_setup h.problem) h.problem.rules.limits (table_of truth h.problem) never;
+      told = λ some ended.
+          subst (Took out out') (same_output space (true_run truth h.problem) h.entries h.last (h.trajectory.told some ended)) lines;
     }
 
 -- an answer that says what it was to say was written whole
@@ -110,7 +121,7 @@ ok_output words files truth out out' text h taken = record {
   entries = h.entries;
   last = h.last;
   printed = subst (Took out out') h.lines taken;
-  holds = λ some. grows_all _ _ (h.trajectory.told some).all;
+  holds = h.trajectory.holds;
   all = λ some. (h.trajectory.quiet some).all;
   end = λ some. (h.trajectory.quiet some).end;
 }
@@ -123,7 +134,7 @@ aborted_output words files truth cell out out' text h taken = record {
   entries = h.entries;
   printed = subst (Took out out') h.lines taken;
   aborts = h.stopped.aborted;
-  holds = h.stopped.all;
+  holds = h.stopped.holds;
   first = h.stopped.first;
 }
 
@@ -334,7 +345,7 @@ completed call (status.BadFile kind line what) c p a seated basic truth never re
 completed call (status.ReadFault kind) c p a seated basic truth never reads works = absurd (reads c.rose)
 completed call status.WriteFault c p a seated basic truth never reads works = inr refl
 completed call (status.Aborted cell) c p a seated basic truth never reads works = absurd (unaborted call p c.problem a c.run.stated never (c.ended truth))
-completed call (status.ChildFault seat) c p a seated basic truth never reads works = absurd (works seat c.1.before c.1.after c.1.was c.1.is c.1.failure.rose)
+completed call (status.ChildFault seat) c p a seated basic truth never reads works = absurd (works seat c.1.before c.1.after c.1.was c.1.is c.1.failure.failed.rose)
 completed call status.NoMemory c p a seated basic truth never reads works = inr refl
 completed call (status.TooFewSeats asked given) c p a seated basic truth never reads works = absurd (too_few_seated call p asked given a seated c)
 completed call status.Unbuilt c p a seated basic truth never reads works = absurd (not_focused call p c.problem a basic c.stated c.focused)

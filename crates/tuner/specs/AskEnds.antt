@@ -1,46 +1,55 @@
 -- How an ask is met, by cases.
-use Rattle.std.specs.Prelude.{ℕ, ◌≡◌, List, Option, Some, None}
-use Rattle.std.specs.Option.{option_map}
-use Rattle.objective.specs.Costs.{cost_of}
+use Rattle.std.specs.Prelude.{ℕ, ◌≡◌, ◌≤◌, Option, Some, IsSome, IsSomeAnd}
+use Rattle.objective.specs.Bounds.{Bounds}
+use Rattle.objective.specs.Costs.{Table}
 use Rattle.objective.specs.declared.Outcome.{Outcome}
-use Rattle.objective.specs.declared.Sum.{Sum}
 use Rattle.wrapper_lines.specs.declared.runs.Key.{Key}
-use Rattle.outside.specs.Counts.{Rose}
 use Rattle.outside.specs.ToldStates.{SpawnerTold}
 use Rattle.param_space.specs.Configurations.{IsConfig}
+use Rattle.uncapped.specs.DueCutoffs.{cap_at}
 use Rattle.uncapped.specs.Procedure.{Question}
 use Rattle.ils_face.specs.declared.asks.Reply.{Reply}
-use Rattle.tuner.specs.Evaluations.{IsPlace}
+use Rattle.run_cache.specs.declared.cell.Cell.{Cell}
+use Rattle.capping.specs.Decisions.{IsFirstAbort}
+use Rattle.tuner.specs.CellRuns.{HasFailed}
 use Rattle.tuner.specs.Problem.{Problem}
-use Rattle.tuner.specs.ProblemRuns.{run_at, table_of}
-use Rattle.tuner.specs.declared.cell.Cell.{Cell}
+use Rattle.tuner.specs.ProblemRuns.{table_of}
 use Rattle.tuner.specs.declared.meeting.Met.{Met}
 use Rattle.tuner.specs.declared.meeting.Met.TheVariants
 
--- the bound of a question
-abbrev pub bound_of : Option Sum → Option ℕ
-bound_of bound = option_map (λ b. b.0) bound
-
--- a configuration's total cost over its first places is asked for, in full or up to a bound
-abbrev pub question : List ℕ → ℕ → Option Sum → Question
-question config n bound = record { config = config; places = n; bound = bound_of bound }
+-- a place of a comparison, from 1
+pub record IsPlace (max_runs place : ℕ) : Type 0 where
+  pub first : 1 ≤ place
+  pub last : place ≤ max_runs
 
 -- a cell of the problem: an allowed canonical configuration at one of its places
 pub record IsCell (problem : Problem) (cell : Cell) : Type 0 where
   pub sound : IsConfig problem.rules.space cell.config
   pub in_range : IsPlace problem.rules.max_runs cell.place
 
--- the run of the cell failed, and the spawner's count rose
-pub record IsFailure (problem : Problem) (before after : SpawnerTold) (cell : Cell) : Type 0 where
-  pub in_problem : IsCell problem cell
-  pub run : after.failed_run ≡ Some (run_at problem cell.config cell.place)
-  pub rose : Rose before.faults after.faults
+-- the question is of the cell's configuration on at least its place, and this cutoff is due there
+pub record IsCutoffFor (limits : Bounds) (T : Table) (cell : Cell) (cutoff : ℕ) (question : Question) : Type 0 where
+  pub config : question.config ≡ cell.config
+  pub place : cell.place ≤ question.places
+  pub due : cap_at limits T question cell.place ≡ Some cutoff
 
--- the run of the cell aborts within the cutoff, where a truth is told
-pub record IsAbort (problem : Problem) (truth : Option (Key → Outcome)) (cell : Cell) : Type 0 where
+-- the question is of the cell's configuration on at least its place, and its run there is the first that aborts
+pub record AbortsAt (limits : Bounds) (T : Table) (cell : Cell) (question : Question) : Type 0 where
+  pub config : question.config ≡ cell.config
+  pub place : cell.place ≤ question.places
+  pub first : IsFirstAbort limits T cell.place question
+
+-- the run of the cell failed, and the spawner's count rose; where a truth is told, this question was to be met, and the run had its due cutoff
+pub record IsFailure (problem : Problem) (truth : Option (Key → Outcome)) (question : Option Question) (before after : SpawnerTold) (cell : Cell) : Type 0 where
   pub in_problem : IsCell problem cell
-  pub unsolved : (outcome : Key → Outcome) → truth ≡ Some outcome
-      → cost_of problem.rules.limits (table_of (Some outcome) problem cell.config cell.place) ≡ None
+  pub cutoff : ℕ
+  pub failed : HasFailed problem cell cutoff before after
+  pub due : IsSome truth → IsSomeAnd question (IsCutoffFor problem.rules.limits (table_of truth problem) cell cutoff)
+
+-- where a truth is told, this question was to be met, and the cell's run is the first of its runs that aborts
+pub record IsAbort (problem : Problem) (truth : Option (Key → Outcome)) (question : Option Question) (cell : Cell) : Type 0 where
+  pub in_problem : IsCell problem cell
+  pub aborts : IsSome truth → IsSomeAnd question (AbortsAt problem.rules.limits (table_of truth problem) cell)
 
 -- the fact of the reply, where there is one
 abbrev pub IfReply : Met → (Reply → Type 0) → Type 0

@@ -6,12 +6,14 @@ use Rattle.outside.specs.Counts.{Rose}
 use Rattle.outside.specs.ToldStates.{FilesTold, SpawnerTold}
 use Rattle.scenario_files.specs.declared.draft.Approach.TheVariants.{Basic, Focused}
 use Rattle.uncapped.specs.Procedure.{Finished, Aborted}
+use Rattle.uncapped.specs.Totals.{NeverAborts}
 use Rattle.tuner.specs.AskEnds.{IsFailure, IsAbort}
 use Rattle.tuner.specs.Calls.{Call, call_of, IsMisused, IsCalled, StatesProblem, IsSeated}
 use Rattle.tuner.specs.Problem.{Problem}
+use Rattle.tuner.specs.ProblemRuns.{table_of}
 use Rattle.tuner.specs.Readings.{Reads, Bad, problem_of, file_name}
-use Rattle.tuner.specs.SearchEnds.{true_run}
-use Rattle.tuner.specs.declared.cell.Cell.{Cell}
+use Rattle.tuner.specs.SearchEnds.{true_run, ask_over}
+use Rattle.run_cache.specs.declared.cell.Cell.{Cell}
 use Rattle.tuner.specs.declared.status.FileKind.{FileKind}
 use Rattle.tuner.specs.declared.status.What.{What}
 use Rattle.tuner.specs.declared.status.Status.{Status}
@@ -23,11 +25,11 @@ pub record IsRun (call : Call) (problem : Problem) : Type 0 where
   pub seated : IsSeated (length call.seats) problem
   pub approach : problem.approach ≡ Basic
 
--- the cause of Ok: a search was run, and where a truth is told, the uncapped procedure finishes
+-- the cause of Ok: a search was run, and where a truth is told that never aborts, the uncapped procedure finishes
 pub record IsFinished (call : Call) : Type 0 where
   pub problem : Problem
   pub run : IsRun call problem
-  pub finished : IsSome call.truth → (true_run call.truth problem).end ≡ Finished
+  pub finished : IsSome call.truth → NeverAborts problem.rules.limits (table_of call.truth problem) → (true_run call.truth problem).end ≡ Finished
 
 -- the cause of BadFile: this fault is the first in the files, and its file was read
 pub record IsBadFile (call : Call) (kind : FileKind) (line : ℕ) (what : What) : Type 0 where
@@ -57,14 +59,15 @@ pub record IsUnbuilt (call : Call) : Type 0 where
   pub seated : IsSeated (length call.seats) problem
   pub focused : problem.approach ≡ Focused
 
--- the cause of Aborted: the run of this cell aborts, and where a truth is told, so does the uncapped procedure
+-- the cause of Aborted: where a truth is told, the run of this cell is the first one of an ask that aborts, and the uncapped procedure is aborted
 pub record IsAborted (call : Call) (cell : Cell) : Type 0 where
   pub problem : Problem
   pub run : IsRun call problem
-  pub abort : IsAbort problem call.truth cell
+  pub number : ℕ  -- of the ask
+  pub abort : IsAbort problem call.truth (ask_over call.truth problem number) cell
   pub ended : IsSome call.truth → (true_run call.truth problem).end ≡ Aborted
 
--- the cause of ChildFault: the count of this seat rose, and its failed run is one of the problem's
+-- the cause of ChildFault: the count of this seat rose, and its failed run is one of the problem's; where a truth is told, it is due at an ask
 pub record IsChildFault (call : Call) (seat : ℕ) : Type 0 where
   pub problem : Problem
   pub cell : Cell
@@ -73,7 +76,8 @@ pub record IsChildFault (call : Call) (seat : ℕ) : Type 0 where
   pub run : IsRun call problem
   pub was : slice_get call.seats seat ≡ Some before
   pub is : slice_get call.seats' seat ≡ Some after
-  pub failure : IsFailure problem before after cell
+  pub number : ℕ  -- of the ask
+  pub failure : IsFailure problem call.truth (ask_over call.truth problem number) before after cell
 
 -- the cause of each answer, but of want of memory; that of WriteFault is the output's
 abbrev pub CauseOf : Call → Status → Type 0

@@ -12,7 +12,7 @@ use Rattle.tuner.specs.Problem.{Problem}
 use Rattle.tuner.specs.ProblemRuns.{run_at}
 use Rattle.tuner.specs.Readings.{Reads, Bad, problem_of, file_name}
 use Rattle.tuner.specs.SearchEnds.{IsTrajectoryOf, IsStoppedSearch, AreFirst}
-use Rattle.tuner.specs.declared.cell.Cell.{Cell}
+use Rattle.run_cache.specs.declared.cell.Cell.{Cell}
 use Rattle.tuner.specs.declared.status.FileKind.{FileKind}
 use Rattle.tuner.specs.declared.status.What.{What}
 use Rattle.tuner.specs.declared.status.Status.{Status}
@@ -57,7 +57,8 @@ pub record IsChildFaultText (words : List (List ℕ)) (files : FilesTold) (truth
   pub in_problem : IsCell problem cell
   pub after : SpawnerTold
   pub is : slice_get seats seat ≡ Some after
-  pub failed : after.failed_run ≡ Some (run_at problem cell.config cell.place)
+  pub cutoff : ℕ
+  pub failed : after.failed_run ≡ Some (run_at problem cell.config cell.place cutoff)
   pub lines : text ≡ lines_with problem.rules.space entries (child_fault_line problem.rules.space cell.place cell.config)
 
 -- the line that there is no memory, by itself or after the entries of a search so far

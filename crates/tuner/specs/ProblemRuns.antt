@@ -33,12 +33,9 @@ key_at problem config place = record {
   settings = settings_at problem config;
 }
 
--- the run with the full cutoff
-abbrev pub run_at : Problem → List ℕ → ℕ → Run
-run_at problem config place = record {
-  key = key_at problem config place;
-  cutoff = record { 0 = problem.rules.limits.cutoff };
-}
+-- the run of a configuration at a place, under a cutoff
+abbrev pub run_at : Problem → List ℕ → ℕ → ℕ → Run
+run_at problem config place cutoff = record { key = key_at problem config place; cutoff = record { 0 = cutoff } }
 
 -- what each key does, where it is told; else nothing is solved
 abbrev pub told_outcome : Option (Key → Outcome) → Key → Outcome

@@ -10,8 +10,9 @@ use Rattle.uncapped.specs.Procedure.{Incumbent, Finished, Aborted}
 use Rattle.uncapped.specs.Totals.{NeverAborts}
 use Rattle.ils_face.specs.Aborts.{entries_of}
 use Rattle.ils_face.specs.Steady.{Grows}
-use Rattle.tuner.specs.declared.cell.Cell.{Cell}
-use Rattle.tuner.specs.Calls.{Call, IsMisused, StatesProblem, IsSeated}
+use Rattle.run_cache.specs.declared.cell.Cell.{Cell}
+use Rattle.tuner.specs.CallStarts.{StartsDue, StartsOf}
+use Rattle.tuner.specs.Calls.{Call, call_of, IsMisused, StatesProblem, IsSeated}
 use Rattle.tuner.specs.Causes.{CauseOf, IsRun}
 use Rattle.tuner.specs.Lines.{lines_with, all_lines, output_of, aborted_line}
 use Rattle.tuner.specs.PrintedTexts.{IsTextOf, Said}
@@ -24,11 +25,12 @@ use Rattle.tuner.specs.declared.status.What.{What}
 use Rattle.tuner.specs.declared.status.Status.{Status}
 use Rattle.tuner.specs.declared.status.Status.TheVariants as status
 
--- how a call was to end, why, what it was to print then, and what came of it
+-- how a call was to end, why, what it had started and was to print then, and what came of it
 pub record Conducted (call : Call) (out out' : SinkTold) (result : Status) : Type 0 where
   pub end : Status
   pub text : List ℕ
   pub cause : CauseOf call end
+  pub starts : StartsOf call end
   pub wanted : IsTextOf call.words call.files call.truth call.seats' end text
   pub said : Said out out' end result text
 
@@ -49,7 +51,7 @@ pub record RunsOn (call : Call) (problem : Problem) (truth : Option (Key → Out
 -- ---- the headline
 
 -- the bytes that the output took are the lines of a search of the stated problem that made all comparisons, and
--- nothing else; where the seats tell a truth, they are those of the uncapped procedure over it, which finishes
+-- nothing else; where the seats tell a truth that never aborts, the uncapped procedure over it finishes, and they are its lines
 pub record IsPrinted (words : List (List ℕ)) (files : FilesTold) (truth : Option (Key → Outcome)) (out out' : SinkTold) : Type 0 where
   pub problem : Problem
   pub stated : StatesProblem words files problem
@@ -57,12 +59,18 @@ pub record IsPrinted (words : List (List ℕ)) (files : FilesTold) (truth : Opti
   pub last : Incumbent
   pub searched : IsSearched problem.rules entries last
   pub printed : Took out out' (all_lines problem.rules.space entries last)
-  pub finished : IsSome truth → (true_run truth problem).end ≡ Finished
-  pub told : IsSome truth → Took out out' (output_of problem.rules.space (true_run truth problem))
+  pub finished : IsSome truth → NeverAborts problem.rules.limits (table_of truth problem) → (true_run truth problem).end ≡ Finished
+  pub told : IsSome truth → (true_run truth problem).end ≡ Finished → Took out out' (output_of problem.rules.space (true_run truth problem))
 
 -- with Ok the trajectory is printed
 abbrev pub Headline : List (List ℕ) → FilesTold → Option (Key → Outcome) → SinkTold → SinkTold → Status → Type 0
 Headline words files truth out out' result = result ≡ status.Ok → IsPrinted words files truth out out'
+
+-- ---- starts
+
+-- with Ok the children that the first seat started in this call were of due runs of the stated problem
+abbrev pub Starts : List (List ℕ) → FilesTold → FilesTold → Option (Key → Outcome) → List SpawnerTold → List SpawnerTold → Status → Type 0
+Starts words files files' truth seats seats' result = result ≡ status.Ok → StartsDue (call_of words files files' truth seats seats')
 
 -- ---- aborts, and entries so far
 

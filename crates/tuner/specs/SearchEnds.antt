@@ -1,18 +1,21 @@
 -- What a search that made all comparisons comes to, and how a search ends, by cases.
-use Rattle.std.specs.Prelude.{ℕ, ◌≡◌, List, map, Option, IsSome}
+use Rattle.std.specs.Prelude.{ℕ, ◌≡◌, List, length, map, slice_get, Option, IsSome}
+use Rattle.objective.specs.Costs.{Table}
 use Rattle.objective.specs.declared.Outcome.{Outcome}
 use Rattle.wrapper_lines.specs.declared.runs.Key.{Key}
 use Rattle.param_space.specs.Configurations.{IsConfig}
+use Rattle.ils_face.specs.declared.asks.Reply.{Reply}
 use Rattle.ils_face.specs.Aborts.{entries_of}
+use Rattle.ils_face.specs.Follows.{sums_under}
 use Rattle.ils_face.specs.Rules.{Rules}
 use Rattle.ils_face.specs.Steady.{Grows}
 use Rattle.ils_face.specs.Trajectories.{IsTrajectory, newest}
-use Rattle.uncapped.specs.Procedure.{Incumbent, Finished, Aborted}
+use Rattle.uncapped.specs.Procedure.{Sums, Question, Incumbent, Finished, Aborted}
 use Rattle.uncapped.specs.Totals.{quiet}
 use Rattle.uncapped.specs.Uncapped
 use Rattle.tuner.specs.Problem.{Problem}
 use Rattle.tuner.specs.ProblemRuns.{table_of, uncapped_run}
-use Rattle.tuner.specs.declared.cell.Cell.{Cell}
+use Rattle.run_cache.specs.declared.cell.Cell.{Cell}
 use Rattle.tuner.specs.declared.searching.Searched.{Searched}
 use Rattle.tuner.specs.declared.searching.Searched.TheVariants as searched
 
@@ -36,20 +39,42 @@ true_run truth problem = uncapped_run problem (table_of truth problem)
 abbrev pub quiet_run : Option (Key → Outcome) → Problem → Uncapped.Run
 quiet_run truth problem = uncapped_run problem (quiet (table_of truth problem))
 
+-- the run of a procedure over the same
+abbrev pub quiet_by : (Rules → Table → Uncapped.Run) → Option (Key → Outcome) → Problem → Uncapped.Run
+quiet_by plain truth problem = plain problem.rules (quiet (table_of truth problem))
+
+-- the total costs over the same
+abbrev pub quiet_sums : Option (Key → Outcome) → Problem → Sums
+quiet_sums truth problem = sums_under problem.rules (quiet (table_of truth problem))
+
+-- the ask of a run after these replies
+abbrev pub next_ask : Uncapped.Run → List Reply → Option Question
+next_ask run replies = slice_get run.asks (length replies)
+
+-- the asks of the uncapped procedure over the same truth with each abort as unsolved
+abbrev pub asks_over : Option (Key → Outcome) → Problem → List Question
+asks_over truth problem = (quiet_run truth problem).asks
+
+-- the ask with this number, from 0
+abbrev pub ask_over : Option (Key → Outcome) → Problem → ℕ → Option Question
+ask_over truth problem number = slice_get (asks_over truth problem) number
+
 -- where a truth is told, these are the first entries of the uncapped procedure over it with each abort as unsolved
 abbrev pub AreFirst : Problem → Option (Key → Outcome) → List Incumbent → Type 0
 AreFirst problem truth entries = IsSome truth → Grows entries (entries_of (quiet_run truth problem))
 
--- what a search of a problem comes to that made all comparisons: where a truth is told, what the uncapped procedure comes to
+-- what a search of a problem comes to that made all comparisons: where a truth is told, what the uncapped procedure comes to over it
+-- with each abort as unsolved, and over itself where that finishes; else first the entries of that
 pub record IsTrajectoryOf (problem : Problem) (truth : Option (Key → Outcome)) (entries : List Incumbent) (last : Incumbent) : Type 0 where
   pub searched : IsSearched problem.rules entries last
-  pub told : IsSome truth → RanTo (true_run truth problem) entries last
   pub quiet : IsSome truth → RanTo (quiet_run truth problem) entries last
+  pub told : IsSome truth → (true_run truth problem).end ≡ Finished → RanTo (true_run truth problem) entries last
+  pub holds : IsSome truth → Grows (entries_of (true_run truth problem)) entries
 
--- what a search of a problem comes to that a child aborts: where a truth is told, the entries of the uncapped procedure, which is aborted
+-- what a search of a problem comes to that a child aborts: where a truth is told, first the entries of the uncapped procedure, which is aborted
 pub record IsStoppedSearch (problem : Problem) (truth : Option (Key → Outcome)) (entries : List Incumbent) : Type 0 where
   pub first : AreFirst problem truth entries
-  pub all : IsSome truth → Grows (entries_of (true_run truth problem)) entries
+  pub holds : IsSome truth → Grows (entries_of (true_run truth problem)) entries
   pub aborted : IsSome truth → (true_run truth problem).end ≡ Aborted
 
 -- the fact, where the search ended

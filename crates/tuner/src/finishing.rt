@@ -13,7 +13,6 @@ ghost use Rattle.tuner.specs.PrintedTexts.{Reported};
 ghost use Rattle.tuner.specs.Promises.{Conducted, RunsOn};
 ghost use Rattle.tuner.specs.SearchEnds.{IsSearched};
 
-use crate::cell::Cell;
 use crate::lines::{end_line, lines_with, no_memory_line, run_line};
 use crate::problem::Problem;
 use crate::saying::{say_all, say_no_memory};
@@ -23,6 +22,7 @@ use crate::status::Status;
 use ils_face::Search;
 use objective::Memory;
 use outside::{Sink, Spawner};
+use run_cache::{Cache, Cell};
 use std::alloc::Global;
 use std::sync::Wait;
 
@@ -147,7 +147,8 @@ pub(crate) fn run_search<R: Wait, P: Search, O: Sink, S: Spawner>(
     let Ok(mut search) = P::open(alloc, &problem.rules) else {
         return say_no_memory(out);
     };
-    match meet_all(rt, alloc, problem, &mut search, &mut seat.spawner) {
+    let mut cache = Cache::new(alloc, problem.rules.limits);
+    match meet_all(rt, alloc, problem, &mut search, &mut cache, seat) {
         Searched::Ended => report_end(alloc, problem, &search, out),
         Searched::Aborted { cell } => report_abort(alloc, problem, &search, cell, out),
         Searched::Failed { cell } => report_failure(alloc, problem, &search, &cell, out),

@@ -1,8 +1,7 @@
 //! The top call: it reads words and files, runs the search, and prints.
 #![tactic(auto)]
 
-mod cell;
-mod evaluation;
+mod cell_runs;
 mod finishing;
 mod lines;
 mod meeting;
@@ -17,8 +16,8 @@ mod status;
 mod truth;
 mod tuning;
 
-pub use cell::Cell;
 pub use problem::Problem;
+pub use run_cache::Cell;
 pub use seat::Seat;
 pub use status::{FileKind, Status, What};
 pub use truth::Truth;

@@ -1,27 +1,29 @@
-//! How an ask is met: all its places are run, each under the full cutoff.
-ghost use Rattle.std.specs.Prelude.{◌≡◌, ◌≤◌, IsTrue, IsSomeAnd, Some};
-ghost use Rattle.objective.specs.declared.Outcome.{Outcome};
-ghost use Rattle.wrapper_lines.specs.declared.runs.Key.{Key};
-ghost use Rattle.ils_face.specs.Replies;
-ghost use Rattle.ils_face.specs.Steady.{IsAsk, IsEvaluation};
-ghost use Rattle.ils_face.specs.Traces.{question_of, IsReplyBy, IsUnknown};
-ghost use Rattle.tuner.specs.Evaluations.{sums_of};
-ghost use Rattle.tuner.specs.AskEnds.{bound_of, question, IsFailure, IsAbort, IfReply, OnEnd, IfAbort, IfFault};
+//! How an ask is met: by what is known, and by the runs that it needs besides.
+ghost use Rattle.std.specs.Prelude.{◌≡◌, ◌≤◌, IsTrue, IsSome, IsSomeAnd, IfOk};
+ghost use Rattle.ils_face.specs.Replies.{Fits};
+ghost use Rattle.ils_face.specs.Steady.{IsAsk};
+ghost use Rattle.ils_face.specs.Traces.{question_of, IsReplyBy};
+ghost use Rattle.run_cache.specs.Caches.{AgreesWith};
+ghost use Rattle.tuner.specs.AskEnds.{IsFailure, IsAbort, IfReply, OnEnd, IfAbort, IfFault};
+ghost use Rattle.tuner.specs.ProblemRuns.{table_of};
+ghost use Rattle.tuner.specs.SearchEnds.{quiet_sums};
+ghost use Rattle.tuner.specs.Starts.{KeepsRuns};
 
-use crate::cell::{Cell, cell_at};
-use crate::evaluation::{Evaluated, evaluate};
+use crate::cell_runs::{Ran, run_cell};
 use crate::problem::Problem;
+use crate::seat::Seat;
+use capping::{Verdict, decide};
 use ils_face::{Ask, Reply};
-use objective::{Sum, at_most};
+use objective::Memory;
 use outside::Spawner;
-use param_space::Config;
+use run_cache::{Cache, Cell};
 use std::alloc::Global;
 use std::sync::Wait;
 
 /// How an ask is met.
 #[derive(Drop)]
 pub(crate) enum Met {
-    /// All its runs were made, and this is the reply.
+    /// What is known gives this reply.
     Reply(Reply),
     /// It asks for nothing: the search has ended.
     End,
@@ -39,82 +41,64 @@ pub(crate) enum Met {
     Memory,
 }
 
-/// The reply that a total cost gives, up to a bound.
-fn reply_up_to(sum: Sum, bound: Option<Sum>) -> Reply
-    ensures { result ≡ Replies.reply_up_to sum.0 (bound_of bound) }
+/// The cell of the configuration that is asked for, at a place.
+fn cell_of(ask: &Ask, place: u32) -> Result<Cell, Memory>
+    requires { IsSome (question_of ask.now) }
+    ensures { IfOk result (λ cell. IsSomeAnd (question_of ask.now) (λ q. cell ≡ record { config = q.config; place = place })) }
 {
-    match bound {
-        Some(bound) => {
-            if at_most(sum, bound) {
-                Reply::Exact(sum)
-            } else {
-                Reply::Exceeds
-            }
-        }
-        None => Reply::Exact(sum),
+    match ask {
+        Ask::Full { config, .. } => Cell::at(config, place),
+        Ask::Versus { config, .. } => Cell::at(config, place),
+        Ask::End => unreachable!(),
     }
 }
 
-/// Runs a configuration at the places 1 to n, and replies with the total cost, up to a
-/// bound. It may wait.
-fn meet_question<R: Wait, S: Spawner>(
-    rt: &R,
-    alloc: Global,
-    problem: &Problem,
-    config: &Config,
-    n: u32,
-    bound: Option<Sum>,
-    spawner: &mut S,
-) -> Met
-    requires idle { IsTrue (S.told spawner.old).idle }
-    requires evaluation { IsEvaluation problem.now.rules config.now n }
-    ensures idle { IsTrue (S.told spawner.new).idle }
-    ensures counts { (S.told spawner.old).faults ≤ (S.told spawner.new).faults }
-    ensures fits { IfReply result (λ r. Replies.Fits (Replies.ask_of config.now n (bound_of bound)) r) }
-    ensures reply { IfReply result (λ r. (outcome : Key → Outcome) → S.truth ≡ Some outcome → IsReplyBy (sums_of problem.now outcome) r (question config.now n bound)) }
-    ensures aborted { IfAbort result (λ cell. IsAbort problem.now S.truth cell) }
-    ensures unknown { IfAbort result (λ cell. (outcome : Key → Outcome) → S.truth ≡ Some outcome → IsUnknown (sums_of problem.now outcome) (question config.now n bound)) }
-    ensures failed { IfFault result (λ cell. IsFailure problem.now (S.told spawner.old) (S.told spawner.new) cell) }
-    ensures unended { OnEnd result ⊥ }
-{
-    match evaluate(rt, alloc, problem, config, n, spawner) {
-        Evaluated::Sum(sum) => Met::Reply(reply_up_to(sum, bound)),
-        Evaluated::Aborted { place } => match cell_at(config, place) {
-            Ok(cell) => Met::Aborted { cell },
-            Err(_) => Met::Memory,
-        },
-        Evaluated::Failed { place } => match cell_at(config, place) {
-            Ok(cell) => Met::Failed { cell },
-            Err(_) => Met::Memory,
-        },
-        Evaluated::Memory => Met::Memory,
-    }
-}
-
-/// Meets an ask of a search. It may wait.
+/// Meets an ask of a search: runs its cells, one after another and each under its due
+/// cutoff, until what is known decides it. It may wait.
 pub(crate) fn meet<R: Wait, S: Spawner>(
     rt: &R,
     alloc: Global,
     problem: &Problem,
     ask: &Ask,
-    spawner: &mut S,
+    cache: &mut Cache,
+    seat: &mut Seat<S>,
 ) -> Met
-    requires idle { IsTrue (S.told spawner.old).idle }
+    requires idle { IsTrue seat.old.idle }
     requires ask { IsAsk problem.now.rules ask.now }
-    ensures idle { IsTrue (S.told spawner.new).idle }
-    ensures counts { (S.told spawner.old).faults ≤ (S.told spawner.new).faults }
-    ensures fits { IfReply result (λ r. Replies.Fits ask.now r) }
-    ensures reply { IfReply result (λ r. (outcome : Key → Outcome) → S.truth ≡ Some outcome → IsSomeAnd (question_of ask.now) (IsReplyBy (sums_of problem.now outcome) r)) }
+    requires limits { cache.old.limits ≡ problem.now.rules.limits }
+    requires agrees { IsSome S.truth → AgreesWith (table_of S.truth problem.now) cache.old }
+    ensures idle { IsTrue seat.new.idle }
+    ensures counts { seat.old.faults ≤ seat.new.faults }
+    ensures limits { cache.new.limits ≡ problem.now.rules.limits }
+    ensures fits { IfReply result (λ r. Fits ask.now r) }
+    ensures reply { IfReply result (λ r. IsSome S.truth → IsSomeAnd (question_of ask.now) (IsReplyBy (quiet_sums S.truth problem.now) r)) }
+    ensures agrees { IfReply result (λ r. IsSome S.truth → AgreesWith (table_of S.truth problem.now) cache.new) }
+    ensures runs { IfReply result (λ r. KeepsRuns problem.now S.truth (question_of ask.now) seat.old seat.new cache.old cache.new) }
     ensures end { OnEnd result (ask.now ≡ Ask.End) }
-    ensures aborted { IfAbort result (λ cell. IsAbort problem.now S.truth cell) }
-    ensures unknown { IfAbort result (λ cell. (outcome : Key → Outcome) → S.truth ≡ Some outcome → IsSomeAnd (question_of ask.now) (IsUnknown (sums_of problem.now outcome))) }
-    ensures failed { IfFault result (λ cell. IsFailure problem.now (S.told spawner.old) (S.told spawner.new) cell) }
+    ensures unchanged { OnEnd result (KeepsRuns problem.now S.truth (question_of ask.now) seat.old seat.new cache.old cache.new) }
+    ensures aborted { IfAbort result (λ cell. IsAbort problem.now S.truth (question_of ask.now) cell) }
+    ensures failed { IfFault result (λ cell. IsFailure problem.now S.truth (question_of ask.now) seat.old seat.new cell) }
 {
-    match ask {
-        Ask::Full { config, n } => meet_question(rt, alloc, problem, config, *n, None, spawner),
-        Ask::Versus { config, n, bound } => {
-            meet_question(rt, alloc, problem, config, *n, Some(*bound), spawner)
+    let _ = &problem.rules.max_runs; // its type keeps it in range
+    for _ in rt.forever() {
+        match decide(cache, ask) {
+            Verdict::Reply(reply) => return Met::Reply(reply),
+            Verdict::Need { place, cutoff } => {
+                let Ok(cell) = cell_of(ask, place) else {
+                    return Met::Memory;
+                };
+                match run_cell(rt, alloc, problem, cell, cutoff, cache, seat) {
+                    Ran::Learnt => {}
+                    Ran::Failed { cell } => return Met::Failed { cell },
+                    Ran::Memory => return Met::Memory,
+                }
+            }
+            Verdict::Aborted { place } => match cell_of(ask, place) {
+                Ok(cell) => return Met::Aborted { cell },
+                Err(_) => return Met::Memory,
+            },
+            Verdict::Ended => return Met::End,
         }
-        Ask::End => Met::End,
     }
+    unreachable!()
 }

@@ -7,7 +7,7 @@ ghost use Rattle.tuner.specs.ProblemRuns;
 
 use ils_face::Rules;
 use instance_pairs::Pairs;
-use objective::Memory;
+use objective::{Memory, Micros};
 use param_space::{Config, Space};
 use plain_text::{Items, Text};
 use scenario_files::Approach;
@@ -86,16 +86,22 @@ impl Problem {
         })
     }
 
-    /// The run of a configuration at a place, from 1, under the full cutoff.
-    pub(crate) fn run_at(&self, alloc: Global, config: &Config, place: u32) -> Result<Run, Memory>
+    /// The run of a configuration at a place, from 1, under a cutoff.
+    pub(crate) fn run_at(
+        &self,
+        alloc: Global,
+        config: &Config,
+        place: u32,
+        cutoff: Micros,
+    ) -> Result<Run, Memory>
         requires belongs { Belongs self.now.rules.space.params config.now }
         requires first { 1 ≤ place }
         requires last { place ≤ self.now.rules.max_runs }
-        ensures { IfOk result (λ r. r ≡ ProblemRuns.run_at self.now config.now place) }
+        ensures { IfOk result (λ r. r ≡ ProblemRuns.run_at self.now config.now place cutoff.0) }
     {
         Ok(Run {
             key: self.key_at(alloc, config, place)?,
-            cutoff: self.rules.limits.cutoff,
+            cutoff,
         })
     }
 }

@@ -1,12 +1,15 @@
 //! One run: a child is started, waited for and read.
-ghost use Rattle.std.specs.Prelude.{◌≡◌, ◌≤◌, IsTrue, Some, true, false};
+ghost use Rattle.std.specs.Prelude.{◌≡◌, ◌≤◌, ◌∷◌, [], IsTrue, Some, true, false};
 ghost use Rattle.std.specs.Bool.{MatchBool};
 ghost use Rattle.objective.specs.Costs.{seen, IsWithin};
 ghost use Rattle.objective.specs.declared.Outcome.{Outcome};
 ghost use Rattle.outside.specs.Counts.{Rose};
 ghost use Rattle.wrapper_lines.specs.declared.runs.Key.{Key};
+ghost use Rattle.wrapper_lines.specs.Runs;
 ghost use Rattle.tuner.specs.RunEnds.{IfAnswer, OnFailed};
+ghost use Rattle.tuner.specs.Starts.{told_more};
 
+use crate::seat::Seat;
 use objective::Answer;
 use outside::{Fault, Poll, Spawner};
 use std::alloc::Global;
@@ -30,6 +33,8 @@ fn wait_for_end<R: Wait, S: Spawner>(rt: &R, spawner: &mut S) -> bool
     ensures idle { IsTrue (S.told spawner.new).idle }
     ensures counts { (S.told spawner.old).faults ≤ (S.told spawner.new).faults }
     ensures same { (S.told spawner.new).current ≡ (S.told spawner.old).current }
+    ensures started { (S.told spawner.new).started ≡ (S.told spawner.old).started }
+    ensures folders { (S.told spawner.new).folders ≡ (S.told spawner.old).folders }
     ensures ended { MatchBool result (IsTrue (S.told spawner.new).held) (Rose (S.told spawner.old).faults (S.told spawner.new).faults) }
     ensures failed_run { result ≡ false → (S.told spawner.new).failed_run ≡ (S.told spawner.old).current }
 {
@@ -43,33 +48,38 @@ fn wait_for_end<R: Wait, S: Spawner>(rt: &R, spawner: &mut S) -> bool
     unreachable!()
 }
 
-/// Runs a program once: the child is started, waited for and its output read. It may wait.
-pub(crate) fn run_once<R: Wait, S: Spawner>(
-    rt: &R,
-    alloc: Global,
-    spawner: &mut S,
-    program: &Program,
-    run: &Run,
-) -> RunEnd
-    requires { IsTrue (S.told spawner.old).idle }
-    ensures idle { IsTrue (S.told spawner.new).idle }
-    ensures counts { (S.told spawner.old).faults ≤ (S.told spawner.new).faults }
-    ensures answer { IfAnswer result (λ a. (outcome : Key → Outcome) → S.truth ≡ Some outcome → a ≡ seen (outcome run.now.key) run.now.cutoff.0) }
-    ensures within { IfAnswer result (λ a. IsWithin a run.now.cutoff.0) }
-    ensures fault { OnFailed result (Rose (S.told spawner.old).faults (S.told spawner.new).faults) }
-    ensures failed_run { OnFailed result ((S.told spawner.new).failed_run ≡ Some run.now) }
-{
-    let Ok(words) = words_of(alloc, program, run) else {
-        return RunEnd::Memory;
-    };
-    match spawner.start(program.dir.as_str(), words.as_slice(), run) {
-        Ok(()) => {}
-        Err(Fault::Failed) => return RunEnd::Failed,
-        Err(Fault::Memory) => return RunEnd::Memory,
-    }
-    if wait_for_end(rt, spawner) {
-        RunEnd::Answer(answer_of(spawner.output(), run.cutoff))
-    } else {
-        RunEnd::Failed
+impl<S: Spawner> Seat<S> {
+    /// Runs a program once: the child is started, waited for and its output read. It may
+    /// wait.
+    pub(crate) fn run_once<R: Wait>(
+        &mut self,
+        rt: &R,
+        alloc: Global,
+        program: &Program,
+        run: &Run,
+    ) -> RunEnd
+        requires { IsTrue self.old.idle }
+        ensures idle { IsTrue self.new.idle }
+        ensures counts { self.old.faults ≤ self.new.faults }
+        ensures answer { IfAnswer result (λ a. (outcome : Key → Outcome) → S.truth ≡ Some outcome → a ≡ seen (outcome run.now.key) run.now.cutoff.0) }
+        ensures within { IfAnswer result (λ a. IsWithin a run.now.cutoff.0) }
+        ensures started { IfAnswer result (λ a. self.new.started ≡ told_more self.old.started (Runs.words_of program.now run.now ∷ [])) }
+        ensures folders { IfAnswer result (λ a. self.new.folders ≡ told_more self.old.folders (program.now.dir ∷ [])) }
+        ensures fault { OnFailed result (Rose self.old.faults self.new.faults) }
+        ensures failed_run { OnFailed result (self.new.failed_run ≡ Some run.now) }
+    {
+        let Ok(words) = words_of(alloc, program, run) else {
+            return RunEnd::Memory;
+        };
+        match self.spawner.start(program.dir.as_str(), words.as_slice(), run) {
+            Ok(()) => {}
+            Err(Fault::Failed) => return RunEnd::Failed,
+            Err(Fault::Memory) => return RunEnd::Memory,
+        }
+        if wait_for_end(rt, &mut self.spawner) {
+            RunEnd::Answer(answer_of(self.spawner.output(), run.cutoff))
+        } else {
+            RunEnd::Failed
+        }
     }
 }

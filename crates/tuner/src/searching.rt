@@ -1,18 +1,16 @@
 //! A search whose asks are met one after another.
-ghost use Rattle.std.specs.Prelude.{◌≡◌, ◌≤◌, [], IsTrue, Some};
-ghost use Rattle.objective.specs.declared.Outcome.{Outcome};
-ghost use Rattle.wrapper_lines.specs.declared.runs.Key.{Key};
-ghost use Rattle.ils_face.specs.Traces.{IsFinal, IsStopped, IsTraced};
+ghost use Rattle.std.specs.Prelude.{◌≡◌, ◌≤◌, [], IsTrue, IsSome};
+ghost use Rattle.ils_face.specs.Traces.{IsFinal, IsTraced};
 ghost use Rattle.tuner.specs.AskEnds.{IsFailure, IsAbort};
-ghost use Rattle.tuner.specs.Evaluations.{sums_of};
-ghost use Rattle.tuner.specs.ProblemRuns.{table_of};
-ghost use Rattle.tuner.specs.SearchEnds.{IsSearched, OnEnded, IfSearchAborted, IfSearchFailed};
+ghost use Rattle.tuner.specs.SearchEnds.{IsSearched, OnEnded, IfSearchAborted, IfSearchFailed, next_ask, quiet_by, quiet_sums};
+ghost use Rattle.tuner.specs.Starts.{RanDue};
 
-use crate::cell::Cell;
 use crate::meeting::{Met, meet};
 use crate::problem::Problem;
+use crate::seat::Seat;
 use ils_face::Search;
 use outside::Spawner;
+use run_cache::{Cache, Cell};
 use std::alloc::Global;
 use std::sync::Wait;
 
@@ -35,29 +33,32 @@ pub(crate) enum Searched {
     Memory,
 }
 
-/// Meets the asks of a search that has no reply yet, until its end. It may wait.
+/// Meets the asks of a search that has no reply yet, until its end, over a cache that knows
+/// nothing yet. It may wait.
 pub(crate) fn meet_all<R: Wait, P: Search, S: Spawner>(
     rt: &R,
     alloc: Global,
     problem: &Problem,
     search: &mut P,
-    spawner: &mut S,
+    cache: &mut Cache,
+    seat: &mut Seat<S>,
 ) -> Searched
-    requires idle { IsTrue (S.told spawner.old).idle }
+    requires idle { IsTrue seat.old.idle }
     requires rules { P.rules_of search.old ≡ problem.now.rules }
     requires none { P.replies_of search.old ≡ [] }
-    ensures idle { IsTrue (S.told spawner.new).idle }
-    ensures counts { (S.told spawner.old).faults ≤ (S.told spawner.new).faults }
+    requires unknown { cache.old ≡ record { limits = problem.now.rules.limits; conflicts = 0; rows = [] } }
+    ensures idle { IsTrue seat.new.idle }
+    ensures counts { seat.old.faults ≤ seat.new.faults }
     ensures rules { P.rules_of search.new ≡ problem.now.rules }
     ensures searched { OnEnded result (let view = P.shown problem.now.rules (P.replies_of search.new) in IsSearched problem.now.rules view.entries view.last) }
-    ensures ended { OnEnded result ((outcome : Key → Outcome) → S.truth ≡ Some outcome → IsFinal (P.shown problem.now.rules (P.replies_of search.new)) (P.plain problem.now.rules (table_of (Some outcome) problem.now))) }
-    ensures traced { (outcome : Key → Outcome) → S.truth ≡ Some outcome → IsTraced (sums_of problem.now outcome) (P.plain problem.now.rules (table_of (Some outcome) problem.now)) (P.replies_of search.new) }
-    ensures aborted { IfSearchAborted result (λ cell. IsAbort problem.now S.truth cell) }
-    ensures stopped { IfSearchAborted result (λ cell. (outcome : Key → Outcome) → S.truth ≡ Some outcome → IsStopped (P.shown problem.now.rules (P.replies_of search.new)) (P.plain problem.now.rules (table_of (Some outcome) problem.now))) }
-    ensures failed { IfSearchFailed result (λ cell. IsFailure problem.now (S.told spawner.old) (S.told spawner.new) cell) }
+    ensures ended { OnEnded result (IsSome S.truth → IsFinal (P.shown problem.now.rules (P.replies_of search.new)) (quiet_by P.plain S.truth problem.now)) }
+    ensures runs { OnEnded result (RanDue problem.now S.truth (quiet_by P.plain S.truth problem.now).asks seat.old seat.new) }
+    ensures traced { IsSome S.truth → IsTraced (quiet_sums S.truth problem.now) (quiet_by P.plain S.truth problem.now) (P.replies_of search.new) }
+    ensures aborted { IfSearchAborted result (IsAbort problem.now S.truth (next_ask (quiet_by P.plain S.truth problem.now) (P.replies_of search.new))) }
+    ensures failed { IfSearchFailed result (IsFailure problem.now S.truth (next_ask (quiet_by P.plain S.truth problem.now) (P.replies_of search.new)) seat.old seat.new) }
 {
     loop {
-        match meet(rt, alloc, problem, search.ask(), spawner) {
+        match meet(rt, alloc, problem, search.ask(), cache, seat) {
             Met::Reply(reply) => {
                 if search.answer(reply).is_err() {
                     return Searched::Memory;

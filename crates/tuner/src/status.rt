@@ -2,9 +2,9 @@
 ghost use Rattle.std.specs.Prelude.{◌≡◌};
 ghost use Rattle.tuner.specs.ExitCodes.{code_of};
 
-use crate::cell::Cell;
 use instance_pairs::InstanceWhat;
 use param_files::ParamWhat;
+use run_cache::Cell;
 use scenario_files::ScenarioWhat;
 
 /// Which of the files a fault is in.

@@ -7,7 +7,7 @@ ghost use Rattle.tuner.specs.Calls.{Call, call_of};
 ghost use Rattle.tuner.specs.Causes.{HasCause};
 ghost use Rattle.tuner.specs.Lines;
 ghost use Rattle.tuner.specs.PrintedTexts.{Ending, Reported};
-ghost use Rattle.tuner.specs.Promises.{AbortSentence, Conducted, Headline, IsAbout, IsComplete, PrintsFirst, RefusesFaulty, RefusesFocused, RefusesMisused, RefusesUnseated};
+ghost use Rattle.tuner.specs.Promises.{AbortSentence, Conducted, Headline, IsAbout, IsComplete, PrintsFirst, RefusesFaulty, RefusesFocused, RefusesMisused, RefusesUnseated, Starts};
 ghost use Rattle.tuner.specs.Refusals.{ReportsMisuse, ReportsRefusal};
 
 use crate::finishing::run_search;
@@ -154,8 +154,12 @@ pub fn tune<R: Wait, F: Files, O: Sink, S: Spawner + Send>(
     requires { All (λ seat. IsTrue seat.idle) seats.old }
 
     // With Ok the output took the lines of a search that made all comparisons, and nothing
-    // else; where the seats tell a truth, they are those of the uncapped procedure.
+    // else; where the seats tell a truth that never aborts, they are those of the uncapped
+    // procedure.
     ensures headline { Headline words.now (F.told files.old) S.truth (O.told out.old) (O.told out.new) result }
+
+    // With Ok no cell was run again that was settled, and each run had its due cutoff.
+    ensures starts { Starts words.now (F.told files.old) (F.told files.new) S.truth seats.old seats.new result }
 
     // Each answer but NoMemory has its cause, and each refusal comes where its cause is.
     ensures cause { HasCause words.now (F.told files.old) (F.told files.new) S.truth seats.old seats.new result }

@@ -1,18 +1,22 @@
-use Rattle.std.proofs.Common.{◌≡◌, ◌≤◌, true, Some}
-use Rattle.objective.specs.declared.Outcome.{Outcome}
-use Rattle.wrapper_lines.specs.declared.runs.Key.{Key}
+use Rattle.std.proofs.Common.{◌≡◌, ◌≤◌, true, length}
+use Rattle.std.specs.Prelude.{IsSome}
 use Rattle.ils_face.specs.Traces.{IsTraced}
-use Rattle.tuner.specs.Evaluations.{sums_of}
+use Rattle.run_cache.specs.Caches.{AgreesWith}
 use Rattle.tuner.specs.ProblemRuns.{table_of}
+use Rattle.tuner.specs.SearchEnds.{quiet_by, quiet_sums}
+use Rattle.tuner.specs.Starts.{HasRun}
 use Rattle.tuner.proofs.searching.meet_all.Given as goal
 
--- the replies so far are those of the total costs to the first asks of the procedure
+-- the replies so far are those of the total costs to the first asks of the procedure, and the runs are due at these
 abbrev pub invariant-loop-reply : goal.invariant-loop-reply
 invariant-loop-reply g l = record {
-  idle : (g.S.Spawner.told l.spawner).idle ≡ true;
-  counts : (g.S.Spawner.told l.initial.spawner).faults ≤ (g.S.Spawner.told l.spawner).faults;
+  idle : l.seat.idle ≡ true;
+  counts : l.initial.seat.faults ≤ l.seat.faults;
   rules : g.P.Search.rules_of l.search ≡ l.problem.rules;
-  traced : (outcome : Key → Outcome) → g.S.Spawner.truth ≡ Some outcome → IsTraced (sums_of l.problem outcome) (g.P.Search.plain l.problem.rules (table_of (Some outcome) l.problem)) (g.P.Search.replies_of l.search);
+  limits : l.cache.limits ≡ l.problem.rules.limits;
+  agrees : IsSome g.S.Spawner.truth → AgreesWith (table_of g.S.Spawner.truth l.problem) l.cache;
+  traced : IsSome g.S.Spawner.truth → IsTraced (quiet_sums g.S.Spawner.truth l.problem) (quiet_by g.P.Search.plain g.S.Spawner.truth l.problem) (g.P.Search.replies_of l.search);
+  runs : HasRun l.problem g.S.Spawner.truth (quiet_by g.P.Search.plain g.S.Spawner.truth l.problem).asks (length (g.P.Search.replies_of l.search)) l.initial.seat l.seat l.cache;
 }
 
 abbrev pub decreases-loop-reply : goal.decreases-loop-reply

@@ -1,8 +1,11 @@
-use Rattle.tuner.proofs.PromiseLemmas.{cause_of, badly_written, headline_of, abort_sentence_of, prints_first, ending_of, refuses_misused, refuses_faulty, refuses_unseated, refuses_focused, complete_of}
+use Rattle.tuner.proofs.PromiseLemmas.{cause_of, starts_of, badly_written, headline_of, abort_sentence_of, prints_first, ending_of, refuses_misused, refuses_faulty, refuses_unseated, refuses_focused, complete_of}
 use Rattle.tuner.proofs.tuning.tune.Goals as goal
 
 pub returns-clause-headline : goal.returns-clause-headline
 returns-clause-headline g c = headline_of _ _ _ _ c.conduct.ensures.ending
+
+pub returns-clause-starts : goal.returns-clause-starts
+returns-clause-starts g c = starts_of _ _ _ _ c.conduct.ensures.ending
 
 pub returns-clause-cause : goal.returns-clause-cause
 returns-clause-cause g c = cause_of _ _ _ _ c.conduct.ensures.ending

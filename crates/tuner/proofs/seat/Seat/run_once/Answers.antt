@@ -1,5 +1,5 @@
 use Rattle.std.proofs.Common.{◌∙◌}
-use Rattle.tuner.proofs.running.run_once.Goals as goal
+use Rattle.tuner.proofs.seat.Seat.run_once.Goals as goal
 
 pub returns-then-wait_for_end-clause-answer : goal.returns-then-wait_for_end-clause-answer
 returns-then-wait_for_end-clause-answer g c = λ outcome e.
