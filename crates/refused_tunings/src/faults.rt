@@ -4,7 +4,7 @@ use objective::Memory;
 use std::alloc::Global;
 use std::sync::Wait;
 use tuner::Status;
-use tuning_harness::{Faults, NONE, Tuning, WORDS, ran};
+use tuning_harness::{Faults, File, NONE, Tuning, WORDS, ran};
 
 /// Whether a tuning with these faults ends so with this code after so many failed starts and
 /// looks, and prints this.
@@ -49,13 +49,13 @@ fn failed_children_are_named(rt: HostRuntime) {
     }
 }
 
-/// A tuning by these words over these instances in which this start or this look fails, and no
+/// A tuning by these words over these files in which this start or this look fails, and no
 /// child is pending.
 fn ran_failing<R: Wait>(
     rt: &R,
     alloc: Global,
     words: &str,
-    instances: &str,
+    files: &[File<'_>],
     start: u32,
     look: u32,
 ) -> Result<Tuning, Memory> {
@@ -65,7 +65,7 @@ fn ran_failing<R: Wait>(
         look,
         ..NONE
     };
-    ran(rt, alloc, words, &[("i", instances.as_bytes())], &faults)
+    ran(rt, alloc, words, files, &faults)
 }
 
 /// Whether a tuning ended by one fault of a child, after so many starts, and printed these
@@ -93,29 +93,29 @@ fn is_named_last<R: Wait>(
     line: &str,
 ) -> Result<bool, Memory> {
     let words = "-scenariofile|s|-maxComparisons|1";
-    let ran = ran_failing(rt, alloc, words, "one\n", start, look)?;
+    let ran = ran_failing(rt, alloc, words, &[], start, look)?;
     is_last_named(alloc, &ran, started, "0 2 7.000000 x=a\n", line)
 }
 
 #[test]
 fn failed_children_of_a_comparison_are_named(rt: HostRuntime) {
-    // The comparison's children are a on both pairs, which are the third and the fourth, and
-    // then b. A failed start isn't among the starts; a child that was started is.
+    // The comparison's children are b on both pairs, which are the third and the fourth. A
+    // failed start isn't among the starts; a child that was started is.
     for (start, look, started, line) in &[
-        (3, 0, 2, "childfault 1 x=a\n"),
-        (4, 0, 3, "childfault 2 x=a\n"),
-        (5, 0, 4, "childfault 1 x=b\n"),
-        (6, 0, 5, "childfault 2 x=b\n"),
-        (0, 3, 3, "childfault 1 x=a\n"),
-        (0, 4, 4, "childfault 2 x=a\n"),
-        (0, 5, 5, "childfault 1 x=b\n"),
+        (3, 0, 2, "childfault 1 x=b\n"),
+        (4, 0, 3, "childfault 2 x=b\n"),
+        (0, 3, 3, "childfault 1 x=b\n"),
+        (0, 4, 4, "childfault 2 x=b\n"),
     ] {
         let right = is_named_last(&rt, rt.alloc(), *start, *look, *started, line);
         check(&rt, matches!(right, Ok(true)), line);
     }
 }
 
-/// Whether a tuning of two comparisons, of which the first finds b, in which this start fails
+/// y is active where x is b alone, so that a has one neighbour.
+const CONDITION: &[u8] = b"x {a, b} [a]\ny {1, 2} [1]\nConditionals:\ny | x in {b}";
+
+/// Whether a tuning of three comparisons, of which the first finds b, in which this start fails
 /// has so many starts, and prints two entries and then this line.
 fn is_named_after_two<R: Wait>(
     rt: &R,
@@ -124,19 +124,20 @@ fn is_named_after_two<R: Wait>(
     started: usize,
     line: &str,
 ) -> Result<bool, Memory> {
-    let words = "-scenariofile|s|-maxComparisons|2";
-    let ran = ran_failing(rt, alloc, words, "one 3424\n", start, 0)?;
-    let entries = "0 2 7.000000 x=a\n1 2 6.000000 x=b\n";
+    let words = "-scenariofile|s|-maxComparisons|3";
+    let files = [("p", CONDITION), ("i", b"one 3424\n".as_slice())];
+    let ran = ran_failing(rt, alloc, words, &files, start, 0)?;
+    let entries = "0 2 7.000000 x=a\n1 2 6.000000 x=b y=1\n";
     is_last_named(alloc, &ran, started, entries, line)
 }
 
 #[test]
 fn entries_come_before_a_failed_child(rt: HostRuntime) {
-    // The second comparison's children are b on both pairs, and then a.
+    // After a and b with y at 1 come b's neighbours in either order: a, which is known, and b
+    // with y at 2 on both pairs.
     for (start, started, line) in &[
-        (7, 6, "childfault 1 x=b\n"),
-        (8, 7, "childfault 2 x=b\n"),
-        (9, 8, "childfault 1 x=a\n"),
+        (5, 4, "childfault 1 x=b y=2\n"),
+        (6, 5, "childfault 2 x=b y=2\n"),
     ] {
         let right = is_named_after_two(&rt, rt.alloc(), *start, *started, line);
         check(&rt, matches!(right, Ok(true)), line);
@@ -186,11 +187,13 @@ fn is_aborted<R: Wait>(
 #[test]
 fn an_abort_ends_the_call(rt: HostRuntime) {
     let one = "-scenariofile|s|-maxComparisons|1";
-    // In the opening evaluation, and in the first comparison, at either place of b.
+    // In the opening evaluation, and in the first comparison, at either place of b; the last
+    // one comes after 8 of the 9 seconds that are left.
     for (words, instances, started, printed) in &[
         (WORDS, "one x429\n", 1, "aborted 1 x=a\n"),
-        (one, "one 34x1\n", 5, "0 2 7.000000 x=a\naborted 1 x=b\n"),
-        (one, "one 341x\n", 6, "0 2 7.000000 x=a\naborted 2 x=b\n"),
+        (one, "one 34x1\n", 3, "0 2 7.000000 x=a\naborted 1 x=b\n"),
+        (one, "one 341x\n", 4, "0 2 7.000000 x=a\naborted 2 x=b\n"),
+        (one, "one 54l1\n", 3, "0 2 9.000000 x=a\naborted 1 x=b\n"),
     ] {
         let right = is_aborted(&rt, rt.alloc(), words, instances, *started, printed);
         check(&rt, matches!(right, Ok(true)), printed);

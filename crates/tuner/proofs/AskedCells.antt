@@ -1,9 +1,8 @@
 -- Cells that fail or abort as an ask is met: the ask is the procedure's next one.
-use Rattle.std.proofs.Common.{ℕ, ◌≡◌, ◌≤◌, Option, refl, subst, arith}
+use Rattle.std.proofs.Common.{◌≡◌, ◌≤◌, Option, subst, arith}
 use Rattle.std.specs.Prelude.{IsSome, IsSomeAnd}
 use Rattle.objective.specs.declared.Outcome.{Outcome}
 use Rattle.wrapper_lines.specs.declared.runs.Key.{Key}
-use Rattle.outside.specs.Counts.{Rose}
 use Rattle.outside.specs.ToldStates.{SpawnerTold}
 use Rattle.uncapped.specs.Procedure.{Question}
 use Rattle.run_cache.specs.declared.cell.Cell.{Cell}

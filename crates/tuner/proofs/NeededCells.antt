@@ -7,7 +7,6 @@ use Rattle.objective.specs.Limits
 use Rattle.objective.specs.declared.Answer.{Answer}
 use Rattle.objective.specs.declared.Outcome.{Outcome}
 use Rattle.wrapper_lines.specs.declared.runs.Key.{Key}
-use Rattle.outside.specs.Counts.{Rose}
 use Rattle.outside.specs.ToldStates.{SpawnerTold}
 use Rattle.uncapped.specs.DueCutoffs.{cap_at}
 use Rattle.uncapped.specs.Procedure.{Question}
@@ -21,7 +20,7 @@ use Rattle.run_cache.specs.Knowledge.{is_settled}
 use Rattle.run_cache.specs.Runs.{IsDueFor}
 use Rattle.run_cache.specs.declared.cell.Cell.{Cell}
 use Rattle.capping.specs.Decisions.{place_count, IsNeeded, IsDueAt, IsKnownAbort, IsFirstAbort}
-use Rattle.tuner.specs.AskEnds.{IsCell, IsFailure, IsAbort, IsCutoffFor, AbortsAt}
+use Rattle.tuner.specs.AskEnds.{IsCell, IsFailure, IsAbort, IsCutoffFor}
 use Rattle.tuner.specs.CellRuns.{HasFailed, HasLearnt, run_with}
 use Rattle.tuner.specs.Problem.{Problem}
 use Rattle.tuner.specs.ProblemRuns.{table_of}

@@ -1,5 +1,5 @@
 -- How a call ends that runs a search.
-use Rattle.std.proofs.Common.{ℕ, ◌≡◌, ◌≤◌, ◌<◌, ◌++◌, List, [], length, Option, Some, None, refl, sym, ap, subst, ◌∙◌, inl, inr, arith}
+use Rattle.std.proofs.Common.{ℕ, ◌≡◌, ◌≤◌, ◌<◌, List, [], length, Option, Some, None, refl, sym, ap, subst, ◌∙◌, inl, inr, arith}
 use Rattle.std.specs.Prelude.{IsSome, IfSome, IsSomeAnd, slice_get}
 use Rattle.std.proofs.lemmas.Bool.{cases_lt}
 use Rattle.std.proofs.lemmas.List.{append-nil}
@@ -178,9 +178,9 @@ module _ (problem : Problem) (truth : Option (Key → Outcome)) (shown : List Re
       let R : Run → Type 0 = λ run. run.end ≡ Aborted in
       let cut : IsSome truth → IsCutBy (plain problem.rules told) whole (length replies) =
       λ some.
-          let unknown = unknown_at problem.rules told cell (next_ask whole replies) (abort.aborts some) in
-          cut_by _ _ whole (length replies) (laws.aborts told)
-          (inside_list (IsUnknown (sums_under problem.rules told)) whole.asks (length replies) (next_ask whole replies) refl unknown) unknown in
+      let unknown = unknown_at problem.rules told cell (next_ask whole replies) (abort.aborts some) in
+      cut_by _ _ whole (length replies) (laws.aborts told)
+      (inside_list (IsUnknown (sums_under problem.rules told)) whole.asks (length replies) (next_ask whole replies) refl unknown) unknown in
       record {
         first = are_first;
         holds = λ some. subst Q (laws.procedure told) (stopped_by some (cut some));
@@ -253,18 +253,20 @@ pub run_failed : (call : Call) (problem : Problem) (truth : Option (Key → Outc
     → Reported out out' result (status.ChildFault 0) (lines_with problem.rules.space entries (child_fault_line problem.rules.space cell.place cell.config)) → Conducted call out out' result
 run_failed call problem truth before after out out' result entries number cell h first failure said =
     let P : Option (Key → Outcome) → Type 0 = λ t. IsFailure problem t (ask_over t problem number) before after cell in
-    reported call out out' result (status.ChildFault 0) _
-    (refl, record {
-      problem = problem;
-      cell = cell;
-      before = before;
-      after = after;
-      run = h.run;
-      was = h.was;
-      is = h.is;
-      number = number;
-      failure = subst P (sym h.tells) failure;
-    })
+    reported call out out' result (status.ChildFault 0) _ (
+      refl,
+      record {
+        problem = problem;
+        cell = cell;
+        before = before;
+        after = after;
+        run = h.run;
+        was = h.was;
+        is = h.is;
+        number = number;
+        failure = subst P (sym h.tells) failure;
+      },
+    )
     tt
     (record {
       problem = problem;

@@ -1,32 +1,29 @@
 -- The runs of a search so far: none at first, one more, and all of them at the end.
 use Rattle.std.proofs.Common.{ℕ, ◌≡◌, ◌≤◌, false, List, [], ◌∷◌, ◌++◌, map, length, Option, Some, None, refl, sym, ap, subst, ◌∙◌, arith, append_assoc}
-use Rattle.std.specs.Prelude.{IsSome, IsSomeAnd, slice_get}
+use Rattle.std.specs.Prelude.{IsSome, IsSomeAnd}
 use Rattle.std.proofs.lemmas.List.{append-nil, map-append, length_push}
 use Rattle.std.proofs.lemmas.List.Elements.{All-nil, All-push}
 use Rattle.objective.specs.Bounds.{Bounds}
-use Rattle.objective.specs.Costs.{Table, seen}
-use Rattle.objective.specs.declared.Answer.{Answer}
+use Rattle.objective.specs.Costs.{Table}
 use Rattle.objective.specs.declared.Outcome.{Outcome}
-use Rattle.wrapper_lines.specs.Runs.{words_of}
 use Rattle.wrapper_lines.specs.declared.runs.Key.{Key}
-use Rattle.wrapper_lines.specs.declared.runs.Run.{Run}
 use Rattle.outside.specs.ToldStates.{SpawnerTold}
 use Rattle.uncapped.specs.Procedure.{Sums, Question}
 use Rattle.uncapped.specs.Uncapped
 use Rattle.ils_face.specs.declared.asks.Reply.{Reply}
 use Rattle.ils_face.specs.Traces.{IsTraced}
 use Rattle.ils_face.proofs.AbortedRuns.{answers_within}
-use Rattle.run_cache.specs.Caches.{Cached, Knowledge, AgreesWith, known_in, known_after}
+use Rattle.run_cache.specs.Caches.{Cached, Knowledge, known_in, known_after}
 use Rattle.run_cache.specs.Knowledge.{is_settled}
 use Rattle.run_cache.specs.Learning.{lesson}
-use Rattle.run_cache.specs.Runs.{CellRun, IsRising, IsDue, IsDueFor, IsBacked}
+use Rattle.run_cache.specs.Runs.{CellRun, IsDue, IsDueFor, IsBacked}
 use Rattle.run_cache.specs.declared.cell.Cell.{Cell}
 use Rattle.run_cache.proofs.DueRuns.{due_up_to_later, one_more_due}
 use Rattle.run_cache.proofs.FirstKnowledge.{knows_nothing, backed_first, rising_first}
 use Rattle.run_cache.proofs.FurtherRuns.{rising_more, backed_more}
 use Rattle.tuner.specs.CellRuns.{run_with, HasLearnt}
 use Rattle.tuner.specs.Problem.{Problem}
-use Rattle.tuner.specs.ProblemRuns.{run_at, table_of}
+use Rattle.tuner.specs.ProblemRuns.{table_of}
 use Rattle.tuner.specs.SearchEnds.{next_ask}
 use Rattle.tuner.specs.Starts.{start_words, told_more, HasStarted, IsShown, HasRun, KeepsRuns, RanDue}
 

@@ -39,15 +39,17 @@ pub record AbortsAt (limits : Bounds) (T : Table) (cell : Cell) (question : Ques
   pub place : cell.place ≤ question.places
   pub first : IsFirstAbort limits T cell.place question
 
--- the run of the cell failed, and the spawner's count rose; where a truth is told, this question was to be met, and the run had its due cutoff
-pub record IsFailure (problem : Problem) (truth : Option (Key → Outcome)) (question : Option Question) (before after : SpawnerTold) (cell : Cell) : Type 0 where
+-- the run of the cell failed under some cutoff, and the spawner's count rose; where a truth is told, it is due for this question
+pub record IsFailure (problem : Problem) (truth : Option (Key → Outcome)) (question : Option Question)
+    (before after : SpawnerTold) (cell : Cell) : Type 0 where
   pub in_problem : IsCell problem cell
   pub cutoff : ℕ
   pub failed : HasFailed problem cell cutoff before after
   pub due : IsSome truth → IsSomeAnd question (IsCutoffFor problem.rules.limits (table_of truth problem) cell cutoff)
 
--- where a truth is told, this question was to be met, and the cell's run is the first of its runs that aborts
-pub record IsAbort (problem : Problem) (truth : Option (Key → Outcome)) (question : Option Question) (cell : Cell) : Type 0 where
+-- where a truth is told, the run of the cell is the first one of this question that aborts
+pub record IsAbort (problem : Problem) (truth : Option (Key → Outcome)) (question : Option Question) (cell : Cell)
+    : Type 0 where
   pub in_problem : IsCell problem cell
   pub aborts : IsSome truth → IsSomeAnd question (AbortsAt problem.rules.limits (table_of truth problem) cell)
 

@@ -8,7 +8,7 @@ use Rattle.tuner.specs.Starts.{RanDue}
 use Rattle.tuner.specs.declared.status.Status.{Status}
 use Rattle.tuner.specs.declared.status.Status.TheVariants as status
 
--- the children of the first seat are of runs of the stated problem that are due at asks of the uncapped procedure
+-- the first seat has started runs of the stated problem, which are due at asks of the uncapped procedure
 pub record StartsDue (call : Call) : Type 0 where
   pub problem : Problem
   pub stated : StatesProblem call.words call.files problem

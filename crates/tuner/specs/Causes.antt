@@ -29,7 +29,8 @@ pub record IsRun (call : Call) (problem : Problem) : Type 0 where
 pub record IsFinished (call : Call) : Type 0 where
   pub problem : Problem
   pub run : IsRun call problem
-  pub finished : IsSome call.truth → NeverAborts problem.rules.limits (table_of call.truth problem) → (true_run call.truth problem).end ≡ Finished
+  pub finished : IsSome call.truth → NeverAborts problem.rules.limits (table_of call.truth problem)
+      → (true_run call.truth problem).end ≡ Finished
 
 -- the cause of BadFile: this fault is the first in the files, and its file was read
 pub record IsBadFile (call : Call) (kind : FileKind) (line : ℕ) (what : What) : Type 0 where
@@ -59,7 +60,8 @@ pub record IsUnbuilt (call : Call) : Type 0 where
   pub seated : IsSeated (length call.seats) problem
   pub focused : problem.approach ≡ Focused
 
--- the cause of Aborted: where a truth is told, the run of this cell is the first one of an ask that aborts, and the uncapped procedure is aborted
+-- the cause of Aborted: where a truth is told, the uncapped procedure is aborted, and the run of this cell is the first one of
+-- an ask that aborts
 pub record IsAborted (call : Call) (cell : Cell) : Type 0 where
   pub problem : Problem
   pub run : IsRun call problem
@@ -67,7 +69,8 @@ pub record IsAborted (call : Call) (cell : Cell) : Type 0 where
   pub abort : IsAbort problem call.truth (ask_over call.truth problem number) cell
   pub ended : IsSome call.truth → (true_run call.truth problem).end ≡ Aborted
 
--- the cause of ChildFault: the count of this seat rose, and its failed run is one of the problem's; where a truth is told, it is due at an ask
+-- the cause of ChildFault: the count of this seat rose, and its failed run is one of the problem's; where a truth is told, it
+-- is due at an ask
 pub record IsChildFault (call : Call) (seat : ℕ) : Type 0 where
   pub problem : Problem
   pub cell : Cell

@@ -20,11 +20,13 @@ abbrev pub run_with : Cell → ℕ → Answer → CellRun
 run_with cell cutoff answer = record { cell = cell; cutoff = cutoff; answer = answer }
 
 -- a run of the cell under this cutoff was started and its answer learnt; where a truth is told, it shows that answer
-pub record HasLearnt (problem : Problem) (truth : Option (Key → Outcome)) (cell : Cell) (cutoff : ℕ) (before after : SpawnerTold) (cache cache' : Cached) : Type 0 where
+pub record HasLearnt (problem : Problem) (truth : Option (Key → Outcome)) (cell : Cell) (cutoff : ℕ)
+    (before after : SpawnerTold) (cache cache' : Cached) : Type 0 where
   pub answer : Answer
   pub shown : IsSome truth → IsShown (table_of truth problem) (run_with cell cutoff answer)
   pub started : HasStarted problem before after (run_with cell cutoff answer ∷ [])
-  pub known : known_in cache' ≡ known_after (known_in cache) cell (lesson cache.limits (known_in cache cell.config cell.place) cutoff answer).known
+  pub known : known_in cache'
+      ≡ known_after (known_in cache) cell (lesson cache.limits (known_in cache cell.config cell.place) cutoff answer).known
 
 -- a run of the cell under this cutoff failed, and the spawner's count rose
 pub record HasFailed (problem : Problem) (cell : Cell) (cutoff : ℕ) (before after : SpawnerTold) : Type 0 where

@@ -51,7 +51,8 @@ pub record RunsOn (call : Call) (problem : Problem) (truth : Option (Key → Out
 -- ---- the headline
 
 -- the bytes that the output took are the lines of a search of the stated problem that made all comparisons, and
--- nothing else; where the seats tell a truth that never aborts, the uncapped procedure over it finishes, and they are its lines
+-- nothing else; where the seats tell a truth that never aborts, the uncapped procedure over it finishes, and where it
+-- finishes, they are its lines
 pub record IsPrinted (words : List (List ℕ)) (files : FilesTold) (truth : Option (Key → Outcome)) (out out' : SinkTold) : Type 0 where
   pub problem : Problem
   pub stated : StatesProblem words files problem
@@ -59,8 +60,10 @@ pub record IsPrinted (words : List (List ℕ)) (files : FilesTold) (truth : Opti
   pub last : Incumbent
   pub searched : IsSearched problem.rules entries last
   pub printed : Took out out' (all_lines problem.rules.space entries last)
-  pub finished : IsSome truth → NeverAborts problem.rules.limits (table_of truth problem) → (true_run truth problem).end ≡ Finished
-  pub told : IsSome truth → (true_run truth problem).end ≡ Finished → Took out out' (output_of problem.rules.space (true_run truth problem))
+  pub finished : IsSome truth → NeverAborts problem.rules.limits (table_of truth problem)
+      → (true_run truth problem).end ≡ Finished
+  pub told : IsSome truth → (true_run truth problem).end ≡ Finished
+      → Took out out' (output_of problem.rules.space (true_run truth problem))
 
 -- with Ok the trajectory is printed
 abbrev pub Headline : List (List ℕ) → FilesTold → Option (Key → Outcome) → SinkTold → SinkTold → Status → Type 0
@@ -68,9 +71,11 @@ Headline words files truth out out' result = result ≡ status.Ok → IsPrinted 
 
 -- ---- starts
 
--- with Ok the children that the first seat started in this call were of due runs of the stated problem
-abbrev pub Starts : List (List ℕ) → FilesTold → FilesTold → Option (Key → Outcome) → List SpawnerTold → List SpawnerTold → Status → Type 0
-Starts words files files' truth seats seats' result = result ≡ status.Ok → StartsDue (call_of words files files' truth seats seats')
+-- with Ok the first seat has started due runs of the stated problem, and nothing else
+abbrev pub Starts : List (List ℕ) → FilesTold → FilesTold → Option (Key → Outcome) → List SpawnerTold → List SpawnerTold
+    → Status → Type 0
+Starts words files files' truth seats seats' result =
+    result ≡ status.Ok → StartsDue (call_of words files files' truth seats seats')
 
 -- ---- aborts, and entries so far
 

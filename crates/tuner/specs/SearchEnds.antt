@@ -63,15 +63,17 @@ ask_over truth problem number = slice_get (asks_over truth problem) number
 abbrev pub AreFirst : Problem → Option (Key → Outcome) → List Incumbent → Type 0
 AreFirst problem truth entries = IsSome truth → Grows entries (entries_of (quiet_run truth problem))
 
--- what a search of a problem comes to that made all comparisons: where a truth is told, what the uncapped procedure comes to over it
--- with each abort as unsolved, and over itself where that finishes; else first the entries of that
-pub record IsTrajectoryOf (problem : Problem) (truth : Option (Key → Outcome)) (entries : List Incumbent) (last : Incumbent) : Type 0 where
+-- what a search of a problem comes to that made all comparisons: where a truth is told, what the uncapped procedure comes
+-- to over it with each abort as unsolved; over the truth itself it comes to the same where it finishes, else to first entries
+pub record IsTrajectoryOf (problem : Problem) (truth : Option (Key → Outcome)) (entries : List Incumbent) (last : Incumbent)
+    : Type 0 where
   pub searched : IsSearched problem.rules entries last
   pub quiet : IsSome truth → RanTo (quiet_run truth problem) entries last
   pub told : IsSome truth → (true_run truth problem).end ≡ Finished → RanTo (true_run truth problem) entries last
   pub holds : IsSome truth → Grows (entries_of (true_run truth problem)) entries
 
--- what a search of a problem comes to that a child aborts: where a truth is told, first the entries of the uncapped procedure, which is aborted
+-- what a search of a problem comes to that a child aborts: where a truth is told, so is the uncapped procedure, whose
+-- entries come first
 pub record IsStoppedSearch (problem : Problem) (truth : Option (Key → Outcome)) (entries : List Incumbent) : Type 0 where
   pub first : AreFirst problem truth entries
   pub holds : IsSome truth → Grows (entries_of (true_run truth problem)) entries

@@ -20,7 +20,7 @@ abbrev pub told_more : {X : Type 0} → Option (List X) → List X → Option (L
 told_more None more = None
 told_more (Some xs) more = Some (xs ++ more)
 
--- what a seat tells between these states is that it started these runs, in order, one each, in the problem's folder
+-- a seat tells that it started these runs, and nothing else: one child each, in order, in the problem's folder
 pub record HasStarted (problem : Problem) (before after : SpawnerTold) (runs : List CellRun) : Type 0 where
   pub words : after.started ≡ told_more before.started (map (start_words problem) runs)
   pub folders : after.folders ≡ told_more before.folders (map (λ run. problem.program.dir) runs)
@@ -29,9 +29,10 @@ pub record HasStarted (problem : Problem) (before after : SpawnerTold) (runs : L
 abbrev pub IsShown : Table → CellRun → Type 0
 IsShown T run = run.answer ≡ seen (T run.cell.config run.cell.place) run.cutoff
 
--- the runs of a search so far, of which its cache knows: where a truth is told, it shows their answers, and each run is due
--- at one of these asks, in their order, up to the one with this number
-pub record HasRun (problem : Problem) (truth : Option (Key → Outcome)) (asks : List Question) (number : ℕ) (before after : SpawnerTold) (cache : Cached) : Type 0 where
+-- a seat has started rising runs, and what the cache knows comes of them: where a truth is told, it shows their answers, and
+-- each is due at one of these asks up to the one with this number, the asks' numbers never falling along the list
+pub record HasRun (problem : Problem) (truth : Option (Key → Outcome)) (asks : List Question) (number : ℕ)
+    (before after : SpawnerTold) (cache : Cached) : Type 0 where
   pub runs : List CellRun
   pub started : HasStarted problem before after runs
   pub rising : IsRising runs
@@ -39,14 +40,17 @@ pub record HasRun (problem : Problem) (truth : Option (Key → Outcome)) (asks :
   pub shown : IsSome truth → All (IsShown (table_of truth problem)) runs
   pub due : IsSome truth → AreDueBetween problem.rules.limits (table_of truth problem) asks 0 number runs
 
--- what the runs of an ask add to those before: with them, too, what is known comes of the runs, whatever asks there are
-pub record KeepsRuns (problem : Problem) (truth : Option (Key → Outcome)) (question : Option Question) (before after : SpawnerTold) (cache cache' : Cached) : Type 0 where
-  pub keeps : (asks : List Question) (number : ℕ) (first : SpawnerTold) → (IsSome truth → slice_get asks number ≡ question)
+-- that goes on holding while a seat runs what this question needs, whichever of the asks it is
+pub record KeepsRuns (problem : Problem) (truth : Option (Key → Outcome)) (question : Option Question)
+    (before after : SpawnerTold) (cache cache' : Cached) : Type 0 where
+  pub keeps : (asks : List Question) (number : ℕ) (first : SpawnerTold)
+      → (IsSome truth → slice_get asks number ≡ question)
       → HasRun problem truth asks number first before cache → HasRun problem truth asks number first after cache'
 
--- a seat started rising runs: where a truth is told, it shows their answers, and each is due at one of these asks, whose numbers
--- never fall along the list
-pub record RanDue (problem : Problem) (truth : Option (Key → Outcome)) (asks : List Question) (before after : SpawnerTold) : Type 0 where
+-- a seat has started rising runs: where a truth is told, it shows their answers, and each is due at one of these asks, the
+-- asks' numbers never falling along the list
+pub record RanDue (problem : Problem) (truth : Option (Key → Outcome)) (asks : List Question) (before after : SpawnerTold)
+    : Type 0 where
   pub runs : List CellRun
   pub started : HasStarted problem before after runs
   pub rising : IsRising runs

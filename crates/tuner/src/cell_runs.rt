@@ -65,8 +65,10 @@ pub(crate) fn run_cell<R: Wait, S: Spawner>(
     ensures idle { IsTrue seat.new.idle }
     ensures counts { seat.old.faults ≤ seat.new.faults }
     ensures limits { cache.new.limits ≡ problem.now.rules.limits }
-    ensures learnt { OnLearnt result (HasLearnt problem.now S.truth cell cutoff.0 seat.old seat.new cache.old cache.new) }
-    ensures agrees { OnLearnt result (IsSome S.truth → AgreesWith (table_of S.truth problem.now) cache.old → AgreesWith (table_of S.truth problem.now) cache.new) }
+    ensures learnt { OnLearnt result
+        (HasLearnt problem.now S.truth cell cutoff.0 seat.old seat.new cache.old cache.new) }
+    ensures agrees { let T = table_of S.truth problem.now in
+        OnLearnt result (IsSome S.truth → AgreesWith T cache.old → AgreesWith T cache.new) }
     ensures same { IfFailed result (λ failed. failed ≡ cell) }
     ensures failed { IfFailed result (λ failed. HasFailed problem.now failed cutoff.0 seat.old seat.new) }
 {

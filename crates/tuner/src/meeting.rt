@@ -44,7 +44,8 @@ pub(crate) enum Met {
 /// The cell of the configuration that is asked for, at a place.
 fn cell_of(ask: &Ask, place: u32) -> Result<Cell, Memory>
     requires { IsSome (question_of ask.now) }
-    ensures { IfOk result (λ cell. IsSomeAnd (question_of ask.now) (λ q. cell ≡ record { config = q.config; place = place })) }
+    ensures { IfOk result (λ cell.
+        IsSomeAnd (question_of ask.now) (λ q. cell ≡ record { config = q.config; place = place })) }
 {
     match ask {
         Ask::Full { config, .. } => Cell::at(config, place),
@@ -71,13 +72,16 @@ pub(crate) fn meet<R: Wait, S: Spawner>(
     ensures counts { seat.old.faults ≤ seat.new.faults }
     ensures limits { cache.new.limits ≡ problem.now.rules.limits }
     ensures fits { IfReply result (λ r. Fits ask.now r) }
-    ensures reply { IfReply result (λ r. IsSome S.truth → IsSomeAnd (question_of ask.now) (IsReplyBy (quiet_sums S.truth problem.now) r)) }
+    ensures reply { IfReply result (λ r.
+        IsSome S.truth → IsSomeAnd (question_of ask.now) (IsReplyBy (quiet_sums S.truth problem.now) r)) }
     ensures agrees { IfReply result (λ r. IsSome S.truth → AgreesWith (table_of S.truth problem.now) cache.new) }
-    ensures runs { IfReply result (λ r. KeepsRuns problem.now S.truth (question_of ask.now) seat.old seat.new cache.old cache.new) }
+    ensures runs { IfReply result (λ r.
+        KeepsRuns problem.now S.truth (question_of ask.now) seat.old seat.new cache.old cache.new) }
     ensures end { OnEnd result (ask.now ≡ Ask.End) }
-    ensures unchanged { OnEnd result (KeepsRuns problem.now S.truth (question_of ask.now) seat.old seat.new cache.old cache.new) }
-    ensures aborted { IfAbort result (λ cell. IsAbort problem.now S.truth (question_of ask.now) cell) }
-    ensures failed { IfFault result (λ cell. IsFailure problem.now S.truth (question_of ask.now) seat.old seat.new cell) }
+    ensures none { OnEnd result
+        (KeepsRuns problem.now S.truth (question_of ask.now) seat.old seat.new cache.old cache.new) }
+    ensures aborted { IfAbort result (IsAbort problem.now S.truth (question_of ask.now)) }
+    ensures failed { IfFault result (IsFailure problem.now S.truth (question_of ask.now) seat.old seat.new) }
 {
     let _ = &problem.rules.max_runs; // its type keeps it in range
     for _ in rt.forever() {

@@ -61,17 +61,23 @@ impl<S: Spawner> Seat<S> {
         requires { IsTrue self.old.idle }
         ensures idle { IsTrue self.new.idle }
         ensures counts { self.old.faults ≤ self.new.faults }
-        ensures answer { IfAnswer result (λ a. (outcome : Key → Outcome) → S.truth ≡ Some outcome → a ≡ seen (outcome run.now.key) run.now.cutoff.0) }
+        ensures answer { IfAnswer result (λ a.
+            (outcome : Key → Outcome) → S.truth ≡ Some outcome → a ≡ seen (outcome run.now.key) run.now.cutoff.0) }
         ensures within { IfAnswer result (λ a. IsWithin a run.now.cutoff.0) }
-        ensures started { IfAnswer result (λ a. self.new.started ≡ told_more self.old.started (Runs.words_of program.now run.now ∷ [])) }
-        ensures folders { IfAnswer result (λ a. self.new.folders ≡ told_more self.old.folders (program.now.dir ∷ [])) }
+        ensures started { IfAnswer result (λ a.
+            self.new.started ≡ told_more self.old.started (Runs.words_of program.now run.now ∷ [])) }
+        ensures folders { IfAnswer result (λ a.
+            self.new.folders ≡ told_more self.old.folders (program.now.dir ∷ [])) }
         ensures fault { OnFailed result (Rose self.old.faults self.new.faults) }
         ensures failed_run { OnFailed result (self.new.failed_run ≡ Some run.now) }
     {
         let Ok(words) = words_of(alloc, program, run) else {
             return RunEnd::Memory;
         };
-        match self.spawner.start(program.dir.as_str(), words.as_slice(), run) {
+        match self
+            .spawner
+            .start(program.dir.as_str(), words.as_slice(), run)
+        {
             Ok(()) => {}
             Err(Fault::Failed) => return RunEnd::Failed,
             Err(Fault::Memory) => return RunEnd::Memory,

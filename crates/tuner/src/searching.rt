@@ -2,7 +2,8 @@
 ghost use Rattle.std.specs.Prelude.{◌≡◌, ◌≤◌, [], IsTrue, IsSome};
 ghost use Rattle.ils_face.specs.Traces.{IsFinal, IsTraced};
 ghost use Rattle.tuner.specs.AskEnds.{IsFailure, IsAbort};
-ghost use Rattle.tuner.specs.SearchEnds.{IsSearched, OnEnded, IfSearchAborted, IfSearchFailed, next_ask, quiet_by, quiet_sums};
+ghost use Rattle.tuner.specs.SearchEnds.{IsSearched, OnEnded, IfSearchAborted, IfSearchFailed};
+ghost use Rattle.tuner.specs.SearchEnds.{next_ask, quiet_by, quiet_sums};
 ghost use Rattle.tuner.specs.Starts.{RanDue};
 
 use crate::meeting::{Met, meet};
@@ -50,12 +51,18 @@ pub(crate) fn meet_all<R: Wait, P: Search, S: Spawner>(
     ensures idle { IsTrue seat.new.idle }
     ensures counts { seat.old.faults ≤ seat.new.faults }
     ensures rules { P.rules_of search.new ≡ problem.now.rules }
-    ensures searched { OnEnded result (let view = P.shown problem.now.rules (P.replies_of search.new) in IsSearched problem.now.rules view.entries view.last) }
-    ensures ended { OnEnded result (IsSome S.truth → IsFinal (P.shown problem.now.rules (P.replies_of search.new)) (quiet_by P.plain S.truth problem.now)) }
-    ensures runs { OnEnded result (RanDue problem.now S.truth (quiet_by P.plain S.truth problem.now).asks seat.old seat.new) }
-    ensures traced { IsSome S.truth → IsTraced (quiet_sums S.truth problem.now) (quiet_by P.plain S.truth problem.now) (P.replies_of search.new) }
-    ensures aborted { IfSearchAborted result (IsAbort problem.now S.truth (next_ask (quiet_by P.plain S.truth problem.now) (P.replies_of search.new))) }
-    ensures failed { IfSearchFailed result (IsFailure problem.now S.truth (next_ask (quiet_by P.plain S.truth problem.now) (P.replies_of search.new)) seat.old seat.new) }
+    ensures searched { let view = P.shown problem.now.rules (P.replies_of search.new) in
+        OnEnded result (IsSearched problem.now.rules view.entries view.last) }
+    ensures ended { let view = P.shown problem.now.rules (P.replies_of search.new) in
+        OnEnded result (IsSome S.truth → IsFinal view (quiet_by P.plain S.truth problem.now)) }
+    ensures runs { let run = quiet_by P.plain S.truth problem.now in
+        OnEnded result (RanDue problem.now S.truth run.asks seat.old seat.new) }
+    ensures traced { let run = quiet_by P.plain S.truth problem.now in
+        IsSome S.truth → IsTraced (quiet_sums S.truth problem.now) run (P.replies_of search.new) }
+    ensures aborted { let run = quiet_by P.plain S.truth problem.now in
+        IfSearchAborted result (IsAbort problem.now S.truth (next_ask run (P.replies_of search.new))) }
+    ensures failed { let run = quiet_by P.plain S.truth problem.now in
+        IfSearchFailed result (IsFailure problem.now S.truth (next_ask run (P.replies_of search.new)) seat.old seat.new) }
 {
     loop {
         match meet(rt, alloc, problem, search.ask(), cache, seat) {

@@ -22,12 +22,13 @@ is_second settings = has (codes "b") settings || has (codes "random") settings
 abbrev pub column_of : Key → ℕ
 column_of key = let others : ℕ = if key.seed == 1 then 0 else 1 in if is_second key.settings then 2 + others else others
 
--- the outcome that a letter stands for: a digit for that many seconds, q for 1.25 and h for 1.5, u for no solution, c for a crash and x for an abort
+-- the outcome that a letter stands for: a digit for that many seconds, q for 1.25 and h for 1.5, u for no solution, c for a crash, x for an abort and l for a late one
 abbrev pub outcome_of : ℕ → Outcome
 outcome_of letter =
     if letter == 117 then Unsolved
     else if letter == 99 then Crashed (record { 0 = 1000000 })
     else if letter == 120 then Abort (record { 0 = 1000000 })
+    else if letter == 108 then Abort (record { 0 = 8000000 })
     else if letter == 113 then Solved (record { 0 = 1250000 })
     else if letter == 104 then Solved (record { 0 = 1500000 })
     else Solved (record { 0 = (letter - 48) * 1000000 })

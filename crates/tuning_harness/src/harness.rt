@@ -65,6 +65,9 @@ pub struct Tuning {
     pub printed: Vec<u8>,
     /// The words of each start of the first seat, parted by spaces, in a line of its own.
     pub starts: String,
+    /// The same of starts with one setting, in short: its value, the seed and the cutoff, as in
+    /// `a2@10.000000`, each followed by a space.
+    pub cells: String,
     /// The folders that these were started in, each in a line of its own.
     pub folders: String,
     /// How many children the first seat started.
@@ -133,6 +136,27 @@ fn all_starts(alloc: Global, seat: &TableSeat<Rows>) -> Result<String, Memory> {
     Ok(text)
 }
 
+/// Appends the value, the seed and the cutoff of a start with one setting.
+fn push_cell(words: &[Text], cells: &mut String) -> Result<(), Memory> {
+    if let [_, _, _, cutoff, _, seed, _, value] = words {
+        cells.push_str(value.as_str())?;
+        cells.push_str(seed.as_str())?;
+        cells.push('@')?;
+        cells.push_str(cutoff.as_str())?;
+        cells.push(' ')?;
+    }
+    Ok(())
+}
+
+/// The value, the seed and the cutoff of each start of a seat.
+fn all_cells(alloc: Global, seat: &TableSeat<Rows>) -> Result<String, Memory> {
+    let mut cells = String::new(alloc);
+    for start in seat.starts() {
+        push_cell(start.as_slice(), &mut cells)?;
+    }
+    Ok(cells)
+}
+
 /// The folder of each start of a seat.
 fn all_folders(alloc: Global, seat: &TableSeat<Rows>) -> Result<String, Memory> {
     let mut text = String::new(alloc);
@@ -157,6 +181,7 @@ fn outcome(
         status,
         printed,
         starts: all_starts(alloc, first)?,
+        cells: all_cells(alloc, first)?,
         folders: all_folders(alloc, first)?,
         started: first.starts().len(),
         failed: first.faults(),

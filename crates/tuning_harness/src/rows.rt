@@ -45,7 +45,8 @@ fn column_of(key: &Key) -> usize
 }
 
 /// The outcome that a letter stands for: a digit for that many seconds, `q` for 1.25 and `h`
-/// for 1.5, `u` for no solution, `c` for a crash and `x` for an abort after a second.
+/// for 1.5, `u` for no solution, `c` for a crash, `x` for an abort after a second and `l` for
+/// one after eight.
 fn outcome_of(letter: u8) -> Outcome
     ensures { result ≡ Letters.outcome_of letter }
 {
@@ -53,6 +54,7 @@ fn outcome_of(letter: u8) -> Outcome
         b'u' => Outcome::Unsolved,
         b'c' => Outcome::Crashed(Micros(1_000_000)),
         b'x' => Outcome::Abort(Micros(1_000_000)),
+        b'l' => Outcome::Abort(Micros(8_000_000)),
         b'q' => Outcome::Solved(Micros(1_250_000)),
         b'h' => Outcome::Solved(Micros(1_500_000)),
         _ => Outcome::Solved(Micros(u64::from(letter.saturating_sub(b'0')) * 1_000_000)),

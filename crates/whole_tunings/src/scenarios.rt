@@ -87,14 +87,12 @@ const TWO_PAIRS: &str = "w one 0 10.000000 2147483647 1 -x a
 w one 0 10.000000 2147483647 2 -x a
 ";
 
-/// The children of the first comparison: a on both pairs twice, then b, all under the full
-/// cutoff.
-const IN_FULL: &str = "w one 0 10.000000 2147483647 1 -x a
+/// The children of one comparison: a on both pairs, and then b under what is left of a's 7
+/// seconds, of which b's first pair takes 2.
+const CAPPED: &str = "w one 0 10.000000 2147483647 1 -x a
 w one 0 10.000000 2147483647 2 -x a
-w one 0 10.000000 2147483647 1 -x a
-w one 0 10.000000 2147483647 2 -x a
-w one 0 10.000000 2147483647 1 -x b
-w one 0 10.000000 2147483647 2 -x b
+w one 0 7.000000 2147483647 1 -x b
+w one 0 5.000000 2147483647 2 -x b
 ";
 
 const IN_FILE_ORDER: &str = "w one 0 10.000000 2147483647 1 -x a
@@ -127,11 +125,11 @@ fn tunings_start_their_children(rt: HostRuntime) {
         ("default settings", WORDS, "one\n", 2, TWO_PAIRS),
         ("the first of two seats", TWO_SEATS, "one\n", 2, TWO_PAIRS),
         (
-            "each evaluation in full",
+            "due cutoffs",
             "-scenariofile|s|-maxComparisons|1",
             "one\n",
-            6,
-            IN_FULL,
+            4,
+            CAPPED,
         ),
         (
             "pairs in file order",
@@ -290,8 +288,8 @@ fn are_all_in(folders: &str, folder: &str) -> bool {
 }
 
 /// Whether one comparison of the usual scenario over these instances is printed, its children
-/// are started in its folder, and no read failed. The opening evaluation and the two of the comparison have
-/// 100 runs each.
+/// are started in its folder, and no read failed. The opening evaluation has 100 runs, and so
+/// has that of the settings drawn for the comparison, which tie.
 fn usual_is_read<R: Wait>(
     rt: &R,
     alloc: Global,
@@ -300,7 +298,7 @@ fn usual_is_read<R: Wait>(
     first: &str,
 ) -> Result<bool, Memory> {
     let ran = ran_usual(rt, alloc, SAPS_WORDS, instances)?;
-    let right = has_printed(&ran, printed) && has_started(&ran, 300, first);
+    let right = has_printed(&ran, printed) && has_started(&ran, 200, first);
     Ok(right && are_all_in(ran.folders.as_str(), "example_saps") && ran.unread == 0)
 }
 

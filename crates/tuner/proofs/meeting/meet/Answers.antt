@@ -1,7 +1,6 @@
 use Rattle.std.proofs.Common.{ap, subst, ◌∙◌, arith}
 use Rattle.ils_face.specs.Rules.{AreRules}
-use Rattle.tuner.proofs.NeededCells.{few_places, needs, keeps_needed, failed_needed, aborted_cell}
-use Rattle.tuner.proofs.RunsSoFar.{keeps_none}
+use Rattle.tuner.proofs.NeededCells.{few_places, needs, keeps_needed}
 use Rattle.tuner.proofs.meeting.meet.Goals as goal
 
 pub decide-requires : goal.decide-requires
@@ -13,11 +12,14 @@ pub loop-preserved : goal.loop-preserved
 loop-preserved g c =
     let held = c.loop.invariant.2 in
     let needed = needs c.args.problem.now g.S.Spawner.truth c.args.ask.now c.in-Ok.cell c.in-Need.place c.in-Need.cutoff.0 c.loop.cache c.requires.ask held.limits held.agrees
-    c.in-Need.ensures.need c.in-Need.ensures.due c.in-Ok.ensures in
-    (tt, tt, record {
-      idle = c.in-Learnt.ensures.idle;
-      counts = let more = c.in-Learnt.ensures.counts in omega (arith, held.counts, more);
-      limits = c.in-Learnt.ensures.limits;
-      agrees = λ some. c.in-Learnt.ensures.agrees some (held.agrees some);
-      keeps = keeps_needed c.args.problem.now g.S.Spawner.truth _ _ _ _ _ _ _ c.in-Ok.cell c.in-Need.cutoff.0 held.keeps held.limits needed c.in-Learnt.ensures.learnt;
-    })
+    c.in-Need.ensures.need c.in-Need.ensures.due c.in-Ok.ensures in (
+      tt,
+      tt,
+      record {
+        idle = c.in-Learnt.ensures.idle;
+        counts = let more = c.in-Learnt.ensures.counts in omega (arith, held.counts, more);
+        limits = c.in-Learnt.ensures.limits;
+        agrees = λ some. c.in-Learnt.ensures.agrees some (held.agrees some);
+        keeps = keeps_needed c.args.problem.now g.S.Spawner.truth _ _ _ _ _ _ _ c.in-Ok.cell c.in-Need.cutoff.0 held.keeps held.limits needed c.in-Learnt.ensures.learnt;
+      },
+    )

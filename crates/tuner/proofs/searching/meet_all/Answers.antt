@@ -1,4 +1,4 @@
-use Rattle.std.proofs.Common.{◌≡◌, ◌∙◌, sym, ap, subst, arith}
+use Rattle.std.proofs.Common.{◌∙◌, sym, ap, subst, arith}
 use Rattle.uncapped.specs.Totals.{quiet}
 use Rattle.ils_face.specs.Traces.{question_of}
 use Rattle.run_cache.specs.Caches.{Cached, AgreesWith}
@@ -78,7 +78,7 @@ returns-in-End-clause-runs g c =
     (λ some.
     present_asked g.P.Search.shown c.args.problem.now.rules _ c.ask.result.now g.P.Search.plain (quiet T) g.met.P.Search.follows
     here (c.loop-reply.invariant.traced some))
-    c.in-End.ensures.unchanged c.loop-reply.invariant.runs _ c.loop-reply.invariant.traced
+    c.in-End.ensures.none c.loop-reply.invariant.runs _ c.loop-reply.invariant.traced
 
 pub returns-in-Aborted-clause-aborted : goal.returns-in-Aborted-clause-aborted
 returns-in-Aborted-clause-aborted g c =
