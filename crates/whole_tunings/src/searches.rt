@@ -94,11 +94,41 @@ fn better_settings_become_the_incumbent(rt: HostRuntime) {
     // Worse settings and ties leave the incumbent. The second comparison is of a with b; it
     // needs b in full, of which the first may have cut short a run or have left one out.
     for (answers, first, later, started, cells) in &[
-        ("3424", opening, found, [2, 4, 4, 4, 4, 4], "a1@10.000000 a2@10.000000 b1@7.000000 b2@5.000000 "),
-        ("3429", opening, opening, [2, 4, 5, 5, 5, 5], "a1@10.000000 a2@10.000000 b1@7.000000 b2@5.000000 b2@10.000000 "),
-        ("3425", opening, opening, [2, 4, 4, 4, 4, 4], "a1@10.000000 a2@10.000000 b1@7.000000 b2@5.000000 "),
-        ("3481", opening, opening, [2, 3, 5, 5, 5, 5], "a1@10.000000 a2@10.000000 b1@7.000000 b1@10.000000 b2@10.000000 "),
-        ("0000", free, free, [2, 4, 4, 4, 4, 4], "a1@10.000000 a2@10.000000 b1@0.000001 b2@0.000001 "),
+        (
+            "3424",
+            opening,
+            found,
+            [2, 4, 4, 4, 4, 4],
+            "a1@10.000000 a2@10.000000 b1@7.000000 b2@5.000000 ",
+        ),
+        (
+            "3429",
+            opening,
+            opening,
+            [2, 4, 5, 5, 5, 5],
+            "a1@10.000000 a2@10.000000 b1@7.000000 b2@5.000000 b2@10.000000 ",
+        ),
+        (
+            "3425",
+            opening,
+            opening,
+            [2, 4, 4, 4, 4, 4],
+            "a1@10.000000 a2@10.000000 b1@7.000000 b2@5.000000 ",
+        ),
+        (
+            "3481",
+            opening,
+            opening,
+            [2, 3, 5, 5, 5, 5],
+            "a1@10.000000 a2@10.000000 b1@7.000000 b1@10.000000 b2@10.000000 ",
+        ),
+        (
+            "0000",
+            free,
+            free,
+            [2, 4, 4, 4, 4, 4],
+            "a1@10.000000 a2@10.000000 b1@0.000001 b2@0.000001 ",
+        ),
     ] {
         let right = are_searched(&rt, rt.alloc(), answers, *first, *later, started, cells);
         check(&rt, matches!(right, Ok(true)), answers);
