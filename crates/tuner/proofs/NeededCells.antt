@@ -20,10 +20,10 @@ use Rattle.run_cache.specs.Knowledge.{is_settled}
 use Rattle.run_cache.specs.Runs.{IsDueFor}
 use Rattle.run_cache.specs.declared.cell.Cell.{Cell}
 use Rattle.capping.specs.Decisions.{place_count, IsNeeded, IsDueAt, IsKnownAbort, IsFirstAbort}
-use Rattle.tuner.specs.AskEnds.{IsCell, IsFailure, IsAbort, IsCutoffFor}
+use Rattle.tuner.specs.AskEnds.{IsFailure, IsAbort, IsCutoffFor}
 use Rattle.tuner.specs.CellRuns.{HasFailed, HasLearnt, run_with}
 use Rattle.tuner.specs.Problem.{Problem}
-use Rattle.tuner.specs.ProblemRuns.{table_of}
+use Rattle.tuner.specs.ProblemRuns.{IsCell, table_of}
 use Rattle.tuner.specs.Starts.{KeepsRuns}
 use Rattle.tuner.proofs.RunsSoFar.{keeps_more}
 
@@ -88,6 +88,7 @@ module _ (problem : Problem) (truth : Option (Key → Outcome)) where
       → HasLearnt problem truth cell cutoff before after cache' cache'' → KeepsRuns problem truth question start after cache cache''
   keeps_needed question start before after cache cache' cache'' cell cutoff former same needed h =
       keeps_more problem truth question start before after cache cache' cache'' cell cutoff former same needed.unsettled h
+      (record { cell = needed.in_problem; cutoff = needed.in_range })
       (λ some. due_run question cell cutoff h.answer needed.in_problem.in_range.first (needed.due some))
 
   -- it failed

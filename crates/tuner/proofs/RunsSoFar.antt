@@ -25,7 +25,7 @@ use Rattle.tuner.specs.CellRuns.{run_with, HasLearnt}
 use Rattle.tuner.specs.Problem.{Problem}
 use Rattle.tuner.specs.ProblemRuns.{table_of}
 use Rattle.tuner.specs.SearchEnds.{next_ask}
-use Rattle.tuner.specs.Starts.{start_words, told_more, HasStarted, IsShown, HasRun, KeepsRuns, RanDue}
+use Rattle.tuner.specs.Starts.{start_words, told_more, HasStarted, IsProblemRun, IsShown, HasRun, KeepsRuns, RanDue}
 
 -- ---- what is told
 
@@ -66,6 +66,7 @@ module _ (problem : Problem) (truth : Option (Key → Outcome)) where
       → HasRun problem truth asks (length replies) seat seat cache
   no_run asks replies seat cache none e = record {
     runs = [];
+    each = All-nil (IsProblemRun problem);
     started = started_none problem seat;
     rising = rising_first;
     backed = let P : Cached → Type 0 = λ c. IsBacked limits [] (known_in c) in subst P (sym e) (backed_first limits);
@@ -78,6 +79,7 @@ module _ (problem : Problem) (truth : Option (Key → Outcome)) where
       → HasRun problem truth asks number first seat cache → HasRun problem truth asks later first seat cache
   up_to_later asks number later first seat cache low h = record {
     runs = h.runs;
+    each = h.each;
     started = h.started;
     rising = h.rising;
     backed = h.backed;
@@ -90,6 +92,7 @@ module _ (problem : Problem) (truth : Option (Key → Outcome)) where
       → HasRun problem truth asks number first seat cache → RanDue problem truth asks first seat
   ran_due asks number first seat cache low h = record {
     runs = h.runs;
+    each = h.each;
     started = h.started;
     rising = h.rising;
     shown = h.shown;
@@ -99,15 +102,16 @@ module _ (problem : Problem) (truth : Option (Key → Outcome)) where
   -- one more run, of a cell that isn't settled
   one_more : (asks : List Question) (number : ℕ) (first before after : SpawnerTold) (cache cache' : Cached) (cell : Cell) (cutoff : ℕ)
       → cache.limits ≡ limits → is_settled (known_in cache cell.config cell.place) cutoff ≡ false
-      → (h : HasLearnt problem truth cell cutoff before after cache cache')
+      → (h : HasLearnt problem truth cell cutoff before after cache cache') → IsProblemRun problem (run_with cell cutoff h.answer)
       → (IsSome truth → IsDue limits told asks number (run_with cell cutoff h.answer))
       → HasRun problem truth asks number first before cache → HasRun problem truth asks number first after cache'
-  one_more asks number first before after cache cache' cell cutoff same unsettled h due former =
+  one_more asks number first before after cache cache' cell cutoff same unsettled h own due former =
       let run = run_with cell cutoff h.answer in
       let known : known_in cache' ≡ known_after (known_in cache) cell (lesson limits (known_in cache cell.config cell.place) cutoff h.answer).known =
       h.known ∙ ap (λ l. known_after (known_in cache) cell (lesson l (known_in cache cell.config cell.place) cutoff h.answer).known) same in
       record {
         runs = former.runs ++ run ∷ [];
+        each = All-push (IsProblemRun problem) former.runs run former.each own;
         started = started_on problem first before after former.runs (run ∷ []) former.started h.started;
         rising = rising_more limits former.runs run (known_in cache) unsettled former.backed former.rising;
         backed =
@@ -127,12 +131,12 @@ module _ (problem : Problem) (truth : Option (Key → Outcome)) where
   pub keeps_more : (question : Option Question) (start before after : SpawnerTold) (cache cache' cache'' : Cached) (cell : Cell) (cutoff : ℕ)
       → KeepsRuns problem truth question start before cache cache' → cache'.limits ≡ limits
       → is_settled (known_in cache' cell.config cell.place) cutoff ≡ false
-      → (h : HasLearnt problem truth cell cutoff before after cache' cache'')
+      → (h : HasLearnt problem truth cell cutoff before after cache' cache'') → IsProblemRun problem (run_with cell cutoff h.answer)
       → (IsSome truth → IsSomeAnd question (IsDueFor limits told (run_with cell cutoff h.answer)))
       → KeepsRuns problem truth question start after cache cache''
-  keeps_more question start before after cache cache' cache'' cell cutoff former same unsettled h due = record {
+  keeps_more question start before after cache cache' cache'' cell cutoff former same unsettled h own due = record {
     keeps = λ asks number first at ran.
-        one_more asks number first before after cache' cache'' cell cutoff same unsettled h
+        one_more asks number first before after cache' cache'' cell cutoff same unsettled h own
         (λ some.
         let P : Option Question → Type 0 = λ o. IsSomeAnd o (IsDueFor limits told (run_with cell cutoff h.answer)) in
         subst P (sym (at some)) (due some))

@@ -5,7 +5,6 @@ use Rattle.objective.specs.Costs.{Table}
 use Rattle.objective.specs.declared.Outcome.{Outcome}
 use Rattle.wrapper_lines.specs.declared.runs.Key.{Key}
 use Rattle.outside.specs.ToldStates.{SpawnerTold}
-use Rattle.param_space.specs.Configurations.{IsConfig}
 use Rattle.uncapped.specs.DueCutoffs.{cap_at}
 use Rattle.uncapped.specs.Procedure.{Question}
 use Rattle.ils_face.specs.declared.asks.Reply.{Reply}
@@ -13,19 +12,9 @@ use Rattle.run_cache.specs.declared.cell.Cell.{Cell}
 use Rattle.capping.specs.Decisions.{IsFirstAbort}
 use Rattle.tuner.specs.CellRuns.{HasFailed}
 use Rattle.tuner.specs.Problem.{Problem}
-use Rattle.tuner.specs.ProblemRuns.{table_of}
+use Rattle.tuner.specs.ProblemRuns.{IsCell, table_of}
 use Rattle.tuner.specs.declared.meeting.Met.{Met}
 use Rattle.tuner.specs.declared.meeting.Met.TheVariants
-
--- a place of a comparison, from 1
-pub record IsPlace (max_runs place : ℕ) : Type 0 where
-  pub first : 1 ≤ place
-  pub last : place ≤ max_runs
-
--- a cell of the problem: an allowed canonical configuration at one of its places
-pub record IsCell (problem : Problem) (cell : Cell) : Type 0 where
-  pub sound : IsConfig problem.rules.space cell.config
-  pub in_range : IsPlace problem.rules.max_runs cell.place
 
 -- the question is of the cell's configuration on at least its place, and this cutoff is due there
 pub record IsCutoffFor (limits : Bounds) (T : Table) (cell : Cell) (cutoff : ℕ) (question : Question) : Type 0 where

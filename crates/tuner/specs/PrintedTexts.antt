@@ -6,10 +6,9 @@ use Rattle.outside.specs.ToldStates.{FilesTold, SinkTold, SpawnerTold}
 use Rattle.outside.specs.WholePieces.{Took, TookPartOf, WroteBadly}
 use Rattle.uncapped.specs.Procedure.{Incumbent}
 use Rattle.tuner.specs.Calls.{StatesProblem}
-use Rattle.tuner.specs.AskEnds.{IsCell}
 use Rattle.tuner.specs.Lines.{lines_with, all_lines, unbuilt_line, aborted_line, no_memory_line, usage_line, bad_file_line, read_fault_line, seats_line, child_fault_line}
 use Rattle.tuner.specs.Problem.{Problem}
-use Rattle.tuner.specs.ProblemRuns.{run_at}
+use Rattle.tuner.specs.ProblemRuns.{IsCell, run_at}
 use Rattle.tuner.specs.Readings.{Reads, Bad, problem_of, file_name}
 use Rattle.tuner.specs.SearchEnds.{IsTrajectoryOf, IsStoppedSearch, AreFirst}
 use Rattle.run_cache.specs.declared.cell.Cell.{Cell}

@@ -1,8 +1,9 @@
--- The runs of a problem, and the procedure that it is tuned by.
-use Rattle.std.specs.Prelude.{ℕ, List, map, Option, Some, None}
+-- The cells and runs of a problem, and the procedure that it is tuned by.
+use Rattle.std.specs.Prelude.{ℕ, ◌≤◌, List, map, Option, Some, None}
 use Rattle.objective.specs.Costs.{Table}
 use Rattle.objective.specs.declared.Outcome.{Outcome}
 use Rattle.objective.specs.declared.Outcome.TheVariants.{Unsolved}
+use Rattle.param_space.specs.Configurations.{IsConfig}
 use Rattle.param_space.specs.Settings.{active_values}
 use Rattle.scenario_files.specs.declared.draft.Approach.{Approach}
 use Rattle.scenario_files.specs.declared.draft.Approach.TheVariants.{Basic, Focused}
@@ -14,7 +15,18 @@ use Rattle.uncapped.specs.Setup.{Setup}
 use Rattle.uncapped.specs.Totals.{total_cost}
 use Rattle.uncapped.specs.Uncapped
 use Rattle.ils_face.specs.Setups
+use Rattle.run_cache.specs.declared.cell.Cell.{Cell}
 use Rattle.tuner.specs.Problem.{Problem}
+
+-- a place of a comparison, from 1
+pub record IsPlace (max_runs place : ℕ) : Type 0 where
+  pub first : 1 ≤ place
+  pub last : place ≤ max_runs
+
+-- a cell of the problem: an allowed canonical configuration at one of its places
+pub record IsCell (problem : Problem) (cell : Cell) : Type 0 where
+  pub sound : IsConfig problem.rules.space cell.config
+  pub in_range : IsPlace problem.rules.max_runs cell.place
 
 -- a name and a value as a setting
 abbrev pub setting_from : List ℕ × List ℕ → Setting

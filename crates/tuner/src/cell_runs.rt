@@ -1,9 +1,8 @@
 //! The run of a cell under a cutoff, and what is learnt from it.
 ghost use Rattle.std.specs.Prelude.{◌≡◌, ◌≤◌, IsTrue, IsSome, IfOk, OnOk};
 ghost use Rattle.run_cache.specs.Caches.{AgreesWith, IsCutoff, has_place_in, known_in};
-ghost use Rattle.tuner.specs.AskEnds.{IsCell};
 ghost use Rattle.tuner.specs.CellRuns.{HasLearnt, HasFailed, OnLearnt, IfFailed};
-ghost use Rattle.tuner.specs.ProblemRuns.{run_at, table_of};
+ghost use Rattle.tuner.specs.ProblemRuns.{IsCell, run_at, table_of};
 
 use crate::problem::Problem;
 use crate::running::RunEnd;

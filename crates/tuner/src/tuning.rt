@@ -139,6 +139,9 @@ fn conduct<R: Wait, F: Files, O: Sink, S: Spawner>(
 /// Tunes: reads the words and the files that they name, searches for the best settings by
 /// runs of the first seat, and prints each incumbent and the last line. It may wait.
 ///
+/// What a run has shown isn't run again, and a run gets no more time than could change its
+/// comparison: what is printed is what full runs would lead to.
+///
 /// There have to be as many seats as the scenario has workers, though one is used so far.
 /// `out` gets the lines; `log` gets nothing yet. The status says how it ended, and each
 /// answer but `NoMemory` has its cause in a clause.
@@ -158,7 +161,8 @@ pub fn tune<R: Wait, F: Files, O: Sink, S: Spawner + Send>(
     // procedure.
     ensures headline { Headline words.now (F.told files.old) S.truth (O.told out.old) (O.told out.new) result }
 
-    // With Ok no cell was run again that was settled, and each run had its due cutoff.
+    // With Ok each start was of a run that was due, under the cutoff that was due for it, and
+    // a cell was run again only with more time, after a timeout.
     ensures starts { Starts words.now (F.told files.old) (F.told files.new) S.truth seats.old seats.new result }
 
     // Each answer but NoMemory has its cause, and each refusal comes where its cause is.
