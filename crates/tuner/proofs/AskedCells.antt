@@ -25,6 +25,7 @@ module _ (problem : Problem) (truth : Option (Key → Outcome)) (question asked 
   failure_asked first before after cell same counts h = record {
     in_problem = h.in_problem;
     cutoff = h.cutoff;
+    in_range = h.in_range;
     failed = record { run = h.failed.run; rose = let rose = h.failed.rose in omega (arith, counts, rose) };
     due = λ some.
         let P : Option Question → Type 0 = λ o. IsSomeAnd o (IsCutoffFor problem.rules.limits (table_of truth problem) cell h.cutoff) in

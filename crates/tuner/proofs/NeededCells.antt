@@ -101,6 +101,7 @@ module _ (problem : Problem) (truth : Option (Key → Outcome)) where
       record {
         in_problem = here.in_problem;
         cutoff = cutoff;
+        in_range = here.in_range;
         failed = record { run = h.run; rose = let rose = h.rose in omega (arith, counts, rose) };
         due = here.due;
       }

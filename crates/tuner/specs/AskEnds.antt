@@ -8,6 +8,7 @@ use Rattle.outside.specs.ToldStates.{SpawnerTold}
 use Rattle.uncapped.specs.DueCutoffs.{cap_at}
 use Rattle.uncapped.specs.Procedure.{Question}
 use Rattle.ils_face.specs.declared.asks.Reply.{Reply}
+use Rattle.run_cache.specs.Caches.{IsCutoff}
 use Rattle.run_cache.specs.declared.cell.Cell.{Cell}
 use Rattle.capping.specs.Decisions.{IsFirstAbort}
 use Rattle.tuner.specs.CellRuns.{HasFailed}
@@ -33,6 +34,7 @@ pub record IsFailure (problem : Problem) (truth : Option (Key → Outcome)) (que
     (before after : SpawnerTold) (cell : Cell) : Type 0 where
   pub in_problem : IsCell problem cell
   pub cutoff : ℕ
+  pub in_range : IsCutoff problem.rules.limits cutoff
   pub failed : HasFailed problem cell cutoff before after
   pub due : IsSome truth → IsSomeAnd question (IsCutoffFor problem.rules.limits (table_of truth problem) cell cutoff)
 

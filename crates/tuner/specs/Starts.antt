@@ -34,8 +34,8 @@ pub record IsProblemRun (problem : Problem) (run : CellRun) : Type 0 where
 abbrev pub IsShown : Table → CellRun → Type 0
 IsShown T run = run.answer ≡ seen (T run.cell.config run.cell.place) run.cutoff
 
--- a seat has started rising runs of a problem, and what the cache knows comes of them: where a truth is told, it shows their answers, and
--- each is due at one of these asks up to the one with this number, the asks' numbers never falling along the list
+-- a seat has started rising runs of a problem, of which comes what the cache knows: where a truth is told, it shows their
+-- answers, and each is due at one of these asks up to this number, the asks' numbers never falling along the list
 pub record HasRun (problem : Problem) (truth : Option (Key → Outcome)) (asks : List Question) (number : ℕ)
     (before after : SpawnerTold) (cache : Cached) : Type 0 where
   pub runs : List CellRun
