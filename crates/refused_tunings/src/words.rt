@@ -40,11 +40,6 @@ fn words_and_seats_are_refused_in_their_order(rt: HostRuntime) {
             "seats 3 2\n",
             9,
         ),
-        (
-            "-scenariofile|s|-workers|2|-approach|focused",
-            "unbuilt\n",
-            10,
-        ),
     ] {
         let right = is_refused(&rt, rt.alloc(), words, line, *code);
         check(&rt, matches!(right, Ok(true)), words);

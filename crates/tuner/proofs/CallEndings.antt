@@ -8,12 +8,11 @@ use Rattle.plain_text.specs.Faults.{IsFound}
 use Rattle.scenario_files.specs.Faults.{place_of}
 use Rattle.scenario_files.specs.Words.{words_read}
 use Rattle.scenario_files.specs.declared.call.Words.{Words}
-use Rattle.scenario_files.specs.declared.draft.Approach.TheVariants.{Basic, Focused}
 use Rattle.scenario_files.specs.declared.faults.WordFault.{WordFault}
 use Rattle.scenario_files.specs.declared.faults.WordFault.TheVariants as word_fault
 use Rattle.tuner.specs.Calls.{Call, StatesProblem, IsSeated}
 use Rattle.tuner.specs.Causes.{IsBadFile, IsUnread}
-use Rattle.tuner.specs.Lines.{seats_line, unbuilt_line}
+use Rattle.tuner.specs.Lines.{seats_line}
 use Rattle.tuner.specs.PrintedTexts.{Said, Reported}
 use Rattle.tuner.specs.Problem.{Problem}
 use Rattle.tuner.specs.Promises.{Conducted, IsAbout, RunsOn}
@@ -67,12 +66,6 @@ ending_unseated call out out' result problem asked seats stated workers all fewe
     reported call out out' result (status.TooFewSeats asked seats) _
     (record { problem = problem; stated = stated; workers = workers; all = sym all; fewer = fewer }) tt refl said
 
--- FocusedILS is asked for
-pub ending_focused : (call : Call) (out out' : SinkTold) (result : Status) (problem : Problem) → StatesProblem call.words call.files problem
-    → IsSeated (length call.seats) problem → problem.approach ≡ Focused → Said out out' status.Unbuilt result unbuilt_line → Conducted call out out' result
-ending_focused call out out' result problem stated seated is said =
-    record { end = status.Unbuilt; text = unbuilt_line; cause = record { problem = problem; stated = stated; seated = seated; focused = is }; starts = tt; wanted = refl; said = said }
-
 first_of : (seats : List SpawnerTold) (d : SpawnerTold) → 0 < length seats → slice_get seats 0 ≡ Some (get_or seats 0 d)
 first_of [] d some = absurd (omega arith)
 first_of (s ∷ later) d some = refl
@@ -83,10 +76,10 @@ new_first (s ∷ later) after some = refl
 
 -- the first of some seats runs the problem
 pub runs_first : (call : Call) (problem : Problem) (truth : Option (Key → Outcome)) (seats : List SpawnerTold) (d before after : SpawnerTold)
-    → IsAbout call problem truth seats (set seats 0 after) → IsSeated (length seats) problem → problem.approach ≡ Basic → 0 < length seats
+    → IsAbout call problem truth seats (set seats 0 after) → IsSeated (length seats) problem → 0 < length seats
     → before ≡ get_or seats 0 d → RunsOn call problem truth before after
-runs_first call problem truth seats d before after h seated basic some same = record {
-  run = record { stated = h.stated; seated = rw h.was seated; approach = basic };
+runs_first call problem truth seats d before after h seated some same = record {
+  run = record { stated = h.stated; seated = rw h.was seated };
   tells = h.tells;
   was = ap (λ s. slice_get s 0) h.was ∙ first_of seats d some ∙ ap Some (sym same);
   is = ap (λ s. slice_get s 0) h.is ∙ new_first seats after some;

@@ -12,15 +12,14 @@ use Rattle.uncapped.specs.Procedure.{Incumbent, Aborted}
 use Rattle.uncapped.specs.Totals.{NeverAborts}
 use Rattle.uncapped.specs.Uncapped.{Run}
 use Rattle.uncapped.proofs.KnownCosts.{finishes}
-use Rattle.scenario_files.specs.declared.draft.Approach.TheVariants.{Basic, Focused}
 use Rattle.tuner.specs.Calls.{Call, IsMisused, IsCalled, StatesProblem, IsSeated}
 use Rattle.tuner.specs.CallStarts.{StartsDue, StartsOf}
 use Rattle.tuner.specs.Causes.{CauseOf, IsBadFile, IsTooFew}
-use Rattle.tuner.specs.Lines.{all_lines, end_line, output_of, usage_line, bad_file_line, read_fault_line, seats_line, unbuilt_line, no_memory_line, aborted_line, child_fault_line}
+use Rattle.tuner.specs.Lines.{all_lines, end_line, output_of, usage_line, bad_file_line, read_fault_line, seats_line, no_memory_line, aborted_line, child_fault_line}
 use Rattle.tuner.specs.PrintedTexts.{IsSearchText, IsAbortedText, IsNoMemoryText, alone, after_entries, IsTextOf, Said, whole, unwritten, no_memory, Ending}
 use Rattle.tuner.specs.Problem.{Problem}
 use Rattle.tuner.specs.ProblemRuns.{table_of, procedure_of, problem_setup}
-use Rattle.tuner.specs.Promises.{Conducted, IsPrinted, IsUnabortedOutput, IsAbortedOutput, AbortSentence, PrintsFirst, none, some, begins_with_letter, is_unsaid, yields, RefusesFaulty, RefusesUnseated, RefusesFocused, NoSeatFails, IsComplete}
+use Rattle.tuner.specs.Promises.{Conducted, IsPrinted, IsUnabortedOutput, IsAbortedOutput, AbortSentence, PrintsFirst, none, some, begins_with_letter, is_unsaid, yields, RefusesFaulty, RefusesUnseated, NoSeatFails, IsComplete}
 use Rattle.tuner.specs.Readings.{Reading, Reads, Misused, Bad, words_reading, problem_by, problem_of, ◌>>=◌}
 use Rattle.tuner.specs.SearchEnds.{RanTo, true_run}
 use Rattle.tuner.proofs.RunEndings.{grows_all}
@@ -174,7 +173,6 @@ text_first words files truth seats out out' (status.ChildFault seat) text h part
     some h.problem h.entries (child_fault_line h.problem.rules.space h.cell.place h.cell.config) h.stated h.first refl (subst (TookPartOf out out') h.lines part)
 text_first words files truth seats out out' status.NoMemory text h part = short_first words files truth out out' text h part
 text_first words files truth seats out out' (status.TooFewSeats asked given) text h part = line_alone words files truth out out' text (seats_line asked given) refl h part
-text_first words files truth seats out out' status.Unbuilt text h part = line_alone words files truth out out' text unbuilt_line refl h part
 
 -- the prefix clause
 pub prints_first : (call : Call) (out out' : SinkTold) (result : Status) → Conducted call out out' result → PrintsFirst call.words call.files call.truth out out'
@@ -230,7 +228,6 @@ refuses_misused call (status.Aborted cell) c place h = absurd (misused_called ca
 refuses_misused call (status.ChildFault seat) c place h = absurd (misused_called call.words place h c.1.run.stated.called)
 refuses_misused call status.NoMemory c place h = inr refl
 refuses_misused call (status.TooFewSeats asked given) c place h = absurd (misused_called call.words place h c.stated.called)
-refuses_misused call status.Unbuilt c place h = absurd (misused_called call.words place h c.stated.called)
 
 faulty : (call : Call) (result : Status) → CauseOf call result → (kind : FileKind) (name : List ℕ) (line : ℕ) (what : What) → AreRead call (Bad kind name line what)
     → (result ≡ status.BadFile kind line what) ⊎ IsTrue (yields result)
@@ -248,7 +245,6 @@ faulty call (status.Aborted cell) c kind name line what a = absurd (not_stated c
 faulty call (status.ChildFault seat) c kind name line what a = absurd (not_stated call c.1.problem kind name line what a c.1.run.stated)
 faulty call status.NoMemory c kind name line what a = inr refl
 faulty call (status.TooFewSeats asked given) c kind name line what a = absurd (not_stated call c.problem kind name line what a c.stated)
-faulty call status.Unbuilt c kind name line what a = absurd (not_stated call c.problem kind name line what a c.stated)
 
 -- a file with a fault gives BadFile
 pub refuses_faulty : (call : Call) (result : Status) → CauseOf call result → RefusesFaulty call.words call.files result
@@ -280,7 +276,6 @@ unseated call (status.Aborted cell) c p a fewer = absurd (unseated_too call p c.
 unseated call (status.ChildFault seat) c p a fewer = absurd (unseated_too call p c.1.problem a fewer c.1.run.stated c.1.run.seated)
 unseated call status.NoMemory c p a fewer = inr refl
 unseated call (status.TooFewSeats asked given) c p a fewer = inl (too_few_as call p asked given a c)
-unseated call status.Unbuilt c p a fewer = absurd (unseated_too call p c.problem a fewer c.stated c.seated)
 
 -- a problem that asks for more seats than there are gives TooFewSeats
 pub refuses_unseated : (call : Call) (result : Status) → CauseOf call result → RefusesUnseated call.words call.files (length call.seats) result
@@ -288,44 +283,13 @@ refuses_unseated call result c = record {
   refuses = λ contents problem told reads fewer. unseated call result c problem (record { contents = contents; told = told; reads = reads }) fewer;
 }
 
-not_basic : (call : Call) (p q : Problem) → AreRead call (Reads p) → p.approach ≡ Focused → StatesProblem call.words call.files q → q.approach ≡ Basic → ⊥
-not_basic call p q a is stated basic =
-    let P : Problem → Type 0 = λ r. r.approach ≡ Basic in
-    let here : p.approach ≡ Basic = subst P (sym (same_problem call p q a stated)) basic in
-    cc
+-- ---- completeness
 
 too_few_seated : (call : Call) (p : Problem) (asked given : ℕ) → AreRead call (Reads p) → IsSeated (length call.seats) p → IsTooFew call asked given → ⊥
 too_few_seated call p asked given a seated h =
     let P : Problem → Type 0 = λ r. asked ≡ r.rules.workers in
     let workers = subst P (sym (same_problem call p h.problem a h.stated)) h.workers in
     omega (arith, workers, h.all, h.fewer, seated)
-
-focused_asked : (call : Call) (result : Status) → CauseOf call result → (p : Problem) → AreRead call (Reads p) → IsSeated (length call.seats) p → p.approach ≡ Focused
-    → (result ≡ status.Unbuilt) ⊎ IsTrue (yields result)
-focused_asked call status.Ok c p a seated is = absurd (not_basic call p c.problem a is c.run.stated c.run.approach)
-focused_asked call (status.Usage place) c p a seated is = absurd (not_misused call p place a c)
-focused_asked call (status.BadFile kind line what) c p a seated is = absurd (not_bad call p kind line what a c)
-focused_asked call (status.ReadFault kind) c p a seated is = inr refl
-focused_asked call status.WriteFault c p a seated is = inr refl
-focused_asked call (status.Aborted cell) c p a seated is = absurd (not_basic call p c.problem a is c.run.stated c.run.approach)
-focused_asked call (status.ChildFault seat) c p a seated is = absurd (not_basic call p c.1.problem a is c.1.run.stated c.1.run.approach)
-focused_asked call status.NoMemory c p a seated is = inr refl
-focused_asked call (status.TooFewSeats asked given) c p a seated is = absurd (too_few_seated call p asked given a seated c)
-focused_asked call status.Unbuilt c p a seated is = inl refl
-
--- with enough seats FocusedILS gives Unbuilt
-pub refuses_focused : (call : Call) (result : Status) → CauseOf call result → RefusesFocused call.words call.files (length call.seats) result
-refuses_focused call result c = record {
-  refuses = λ contents problem told reads seated is. focused_asked call result c problem (record { contents = contents; told = told; reads = reads }) seated is;
-}
-
--- ---- completeness
-
-not_focused : (call : Call) (p q : Problem) → AreRead call (Reads p) → p.approach ≡ Basic → StatesProblem call.words call.files q → q.approach ≡ Focused → ⊥
-not_focused call p q a basic stated is =
-    let P : Problem → Type 0 = λ r. r.approach ≡ Focused in
-    let here : p.approach ≡ Focused = subst P (sym (same_problem call p q a stated)) is in
-    cc
 
 unaborted : (call : Call) (p q : Problem) → AreRead call (Reads p) → StatesProblem call.words call.files q → NeverAborts p.rules.limits (table_of call.truth p)
     → (true_run call.truth q).end ≡ Aborted → ⊥
@@ -336,19 +300,18 @@ unaborted call p q a stated never ended =
     cc
 
 -- where files and seats work and the truth never aborts
-completed : (call : Call) (result : Status) → CauseOf call result → (p : Problem) → AreRead call (Reads p) → IsSeated (length call.seats) p → p.approach ≡ Basic
+completed : (call : Call) (result : Status) → CauseOf call result → (p : Problem) → AreRead call (Reads p) → IsSeated (length call.seats) p
     → IsSome call.truth → NeverAborts p.rules.limits (table_of call.truth p)
     → ¬ Rose call.files.faults call.files'.faults → NoSeatFails call.seats call.seats' → (result ≡ status.Ok) ⊎ IsTrue (is_unsaid result)
-completed call status.Ok c p a seated basic truth never reads works = inl refl
-completed call (status.Usage place) c p a seated basic truth never reads works = absurd (not_misused call p place a c)
-completed call (status.BadFile kind line what) c p a seated basic truth never reads works = absurd (not_bad call p kind line what a c)
-completed call (status.ReadFault kind) c p a seated basic truth never reads works = absurd (reads c.rose)
-completed call status.WriteFault c p a seated basic truth never reads works = inr refl
-completed call (status.Aborted cell) c p a seated basic truth never reads works = absurd (unaborted call p c.problem a c.run.stated never (c.ended truth))
-completed call (status.ChildFault seat) c p a seated basic truth never reads works = absurd (works seat c.1.before c.1.after c.1.was c.1.is c.1.failure.failed.rose)
-completed call status.NoMemory c p a seated basic truth never reads works = inr refl
-completed call (status.TooFewSeats asked given) c p a seated basic truth never reads works = absurd (too_few_seated call p asked given a seated c)
-completed call status.Unbuilt c p a seated basic truth never reads works = absurd (not_focused call p c.problem a basic c.stated c.focused)
+completed call status.Ok c p a seated truth never reads works = inl refl
+completed call (status.Usage place) c p a seated truth never reads works = absurd (not_misused call p place a c)
+completed call (status.BadFile kind line what) c p a seated truth never reads works = absurd (not_bad call p kind line what a c)
+completed call (status.ReadFault kind) c p a seated truth never reads works = absurd (reads c.rose)
+completed call status.WriteFault c p a seated truth never reads works = inr refl
+completed call (status.Aborted cell) c p a seated truth never reads works = absurd (unaborted call p c.problem a c.run.stated never (c.ended truth))
+completed call (status.ChildFault seat) c p a seated truth never reads works = absurd (works seat c.1.before c.1.after c.1.was c.1.is c.1.failure.failed.rose)
+completed call status.NoMemory c p a seated truth never reads works = inr refl
+completed call (status.TooFewSeats asked given) c p a seated truth never reads works = absurd (too_few_seated call p asked given a seated c)
 
 pub complete_of : (call : Call) (result : Status) → CauseOf call result → IsComplete call.words call.files call.files' call.truth call.seats call.seats' result
 complete_of call result c = record {

@@ -29,4 +29,3 @@ StartsOf call (status.Aborted cell) = Unit {0}
 StartsOf call (status.ChildFault seat) = Unit {0}
 StartsOf call status.NoMemory = Unit {0}
 StartsOf call (status.TooFewSeats asked given) = Unit {0}
-StartsOf call status.Unbuilt = Unit {0}

@@ -4,7 +4,6 @@ use Rattle.objective.specs.declared.Outcome.{Outcome}
 use Rattle.wrapper_lines.specs.declared.runs.Key.{Key}
 use Rattle.outside.specs.Counts.{Rose}
 use Rattle.outside.specs.ToldStates.{FilesTold, SpawnerTold}
-use Rattle.scenario_files.specs.declared.draft.Approach.TheVariants.{Basic, Focused}
 use Rattle.uncapped.specs.Procedure.{Finished, Aborted}
 use Rattle.uncapped.specs.Totals.{NeverAborts}
 use Rattle.tuner.specs.AskEnds.{IsFailure, IsAbort}
@@ -19,11 +18,10 @@ use Rattle.tuner.specs.declared.status.What.{What}
 use Rattle.tuner.specs.declared.status.Status.{Status}
 use Rattle.tuner.specs.declared.status.Status.TheVariants as status
 
--- words and files state this problem of BasicILS, and there are as many seats as it asks for
+-- words and files state this problem, and there are as many seats as it asks for
 pub record IsRun (call : Call) (problem : Problem) : Type 0 where
   pub stated : StatesProblem call.words call.files problem
   pub seated : IsSeated (length call.seats) problem
-  pub approach : problem.approach ≡ Basic
 
 -- the cause of Ok: a search was run, and where a truth is told that never aborts, the uncapped procedure finishes
 pub record IsFinished (call : Call) : Type 0 where
@@ -52,13 +50,6 @@ pub record IsTooFew (call : Call) (asked given : ℕ) : Type 0 where
   pub workers : asked ≡ problem.rules.workers
   pub all : given ≡ length call.seats
   pub fewer : given < asked
-
--- the cause of Unbuilt: FocusedILS is asked for
-pub record IsUnbuilt (call : Call) : Type 0 where
-  pub problem : Problem
-  pub stated : StatesProblem call.words call.files problem
-  pub seated : IsSeated (length call.seats) problem
-  pub focused : problem.approach ≡ Focused
 
 -- the cause of Aborted: where a truth is told, the uncapped procedure is aborted, and the run of this cell is the first one of
 -- an ask that aborts
@@ -93,7 +84,6 @@ CauseOf call (status.Aborted cell) = IsAborted call cell
 CauseOf call (status.ChildFault seat) = (seat ≡ 0) × IsChildFault call seat
 CauseOf call status.NoMemory = Unit {0}
 CauseOf call (status.TooFewSeats asked given) = IsTooFew call asked given
-CauseOf call status.Unbuilt = IsUnbuilt call
 
 -- the answer has its cause in the words, and in what files and seats tell before and after the call
 abbrev pub HasCause : List (List ℕ) → FilesTold → FilesTold → Option (Key → Outcome) → List SpawnerTold → List SpawnerTold → Status → Type 0

@@ -1,7 +1,7 @@
 -- The exit number of each
 use Rattle.std.specs.Prelude.{ℕ}
 use Rattle.tuner.specs.declared.status.Status.{Status}
-use Rattle.tuner.specs.declared.status.Status.TheVariants.{Ok, Usage, BadFile, ReadFault, WriteFault, Aborted, ChildFault, NoMemory, TooFewSeats, Unbuilt}
+use Rattle.tuner.specs.declared.status.Status.TheVariants.{Ok, Usage, BadFile, ReadFault, WriteFault, Aborted, ChildFault, NoMemory, TooFewSeats}
 
 abbrev pub code_of : Status → ℕ
 code_of Ok = 0
@@ -13,4 +13,3 @@ code_of (Aborted cell) = 6
 code_of (ChildFault seat) = 7
 code_of NoMemory = 8
 code_of (TooFewSeats asked given) = 9
-code_of Unbuilt = 10

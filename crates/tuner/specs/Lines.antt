@@ -40,9 +40,6 @@ all_lines space entries last = lines_with space entries (end_line space last)
 abbrev pub output_of : Lists → Run → List ℕ
 output_of space run = all_lines space (map (λ added. added.entry) run.entries) run.last
 
-abbrev pub unbuilt_line : List ℕ
-unbuilt_line = codes "unbuilt\n"
-
 abbrev pub no_memory_line : List ℕ
 no_memory_line = codes "nomemory\n"
 

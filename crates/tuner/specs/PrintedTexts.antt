@@ -6,7 +6,7 @@ use Rattle.outside.specs.ToldStates.{FilesTold, SinkTold, SpawnerTold}
 use Rattle.outside.specs.WholePieces.{Took, TookPartOf, WroteBadly}
 use Rattle.uncapped.specs.Procedure.{Incumbent}
 use Rattle.tuner.specs.Calls.{StatesProblem}
-use Rattle.tuner.specs.Lines.{lines_with, all_lines, unbuilt_line, aborted_line, no_memory_line, usage_line, bad_file_line, read_fault_line, seats_line, child_fault_line}
+use Rattle.tuner.specs.Lines.{lines_with, all_lines, aborted_line, no_memory_line, usage_line, bad_file_line, read_fault_line, seats_line, child_fault_line}
 use Rattle.tuner.specs.Problem.{Problem}
 use Rattle.tuner.specs.ProblemRuns.{IsCell, run_at}
 use Rattle.tuner.specs.Readings.{Reads, Bad, problem_of, file_name}
@@ -77,7 +77,6 @@ IsTextOf words files truth seats (status.Aborted cell) text = IsAbortedText word
 IsTextOf words files truth seats (status.ChildFault seat) text = IsChildFaultText words files truth seats seat text
 IsTextOf words files truth seats status.NoMemory text = IsNoMemoryText words files truth text
 IsTextOf words files truth seats (status.TooFewSeats asked given) text = text ≡ seats_line asked given
-IsTextOf words files truth seats status.Unbuilt text = text ≡ unbuilt_line
 
 -- the text was written whole and nothing else, or a first part of it with the status that says why
 pub data Said (out out' : SinkTold) (end result : Status) (text : List ℕ) : Type 0 where

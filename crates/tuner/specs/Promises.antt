@@ -5,7 +5,6 @@ use Rattle.wrapper_lines.specs.declared.runs.Key.{Key}
 use Rattle.outside.specs.Counts.{Rose}
 use Rattle.outside.specs.ToldStates.{FilesTold, SinkTold, SpawnerTold}
 use Rattle.outside.specs.WholePieces.{Took, TookPartOf}
-use Rattle.scenario_files.specs.declared.draft.Approach.TheVariants.{Basic, Focused}
 use Rattle.uncapped.specs.Procedure.{Incumbent, Finished, Aborted}
 use Rattle.uncapped.specs.Totals.{NeverAborts}
 use Rattle.ils_face.specs.Aborts.{entries_of}
@@ -125,7 +124,6 @@ abbrev pub is_unsaid : Status → Bool
 is_unsaid status.NoMemory = true
 is_unsaid status.WriteFault = true
 is_unsaid status.Ok = false
-is_unsaid status.Unbuilt = false
 is_unsaid (status.Usage place) = false
 is_unsaid (status.BadFile kind line what) = false
 is_unsaid (status.ReadFault kind) = false
@@ -139,7 +137,6 @@ yields (status.ReadFault kind) = true
 yields status.NoMemory = true
 yields status.WriteFault = true
 yields status.Ok = false
-yields status.Unbuilt = false
 yields (status.Usage place) = false
 yields (status.BadFile kind line what) = false
 yields (status.Aborted cell) = false
@@ -161,12 +158,6 @@ pub record RefusesUnseated (words : List (List ℕ)) (files : FilesTold) (seats 
       → problem_of words contents ≡ Reads problem → seats < problem.rules.workers
       → (result ≡ status.TooFewSeats problem.rules.workers seats) ⊎ IsTrue (yields result)
 
--- with enough seats FocusedILS gives Unbuilt, where nothing else comes in between
-pub record RefusesFocused (words : List (List ℕ)) (files : FilesTold) (seats : ℕ) (result : Status) : Type 0 where
-  pub refuses : (contents : List ℕ → Option (List ℕ)) (problem : Problem) → files.contents ≡ Some contents
-      → problem_of words contents ≡ Reads problem → IsSeated seats problem → problem.approach ≡ Focused
-      → (result ≡ status.Unbuilt) ⊎ IsTrue (yields result)
-
 -- ---- completeness
 
 -- no seat's count of faults rose
@@ -174,11 +165,11 @@ abbrev pub NoSeatFails : List SpawnerTold → List SpawnerTold → Type 0
 NoSeatFails seats seats' = (k : ℕ) (before after : SpawnerTold) → slice_get seats k ≡ Some before → slice_get seats' k ≡ Some after
     → ¬ Rose before.faults after.faults
 
--- where files and seats work, words and files state a problem of BasicILS, there are enough seats and the told truth
--- never aborts, the call ends Ok, or for want of memory or a failed write
+-- where files and seats work, words and files state a problem, there are enough seats and the told truth never aborts,
+-- the call ends Ok, or for want of memory or a failed write
 pub record IsComplete (words : List (List ℕ)) (files files' : FilesTold) (truth : Option (Key → Outcome)) (seats seats' : List SpawnerTold) (result : Status) : Type 0 where
   pub complete : (contents : List ℕ → Option (List ℕ)) (problem : Problem)
-      → files.contents ≡ Some contents → problem_of words contents ≡ Reads problem → IsSeated (length seats) problem → problem.approach ≡ Basic
+      → files.contents ≡ Some contents → problem_of words contents ≡ Reads problem → IsSeated (length seats) problem
       → IsSome truth → NeverAborts problem.rules.limits (table_of truth problem)
       → ¬ Rose files.faults files'.faults → NoSeatFails seats seats'
       → (result ≡ status.Ok) ⊎ IsTrue (is_unsaid result)

@@ -75,8 +75,6 @@ pub enum Status {
         /// The seats that there are.
         given: u32,
     },
-    /// What is asked for isn't built so far: FocusedILS.
-    Unbuilt,
 }
 
 impl Status {
@@ -94,7 +92,6 @@ impl Status {
             Status::ChildFault { .. } => 7,
             Status::NoMemory => 8,
             Status::TooFewSeats { .. } => 9,
-            Status::Unbuilt => 10,
         }
     }
 }

@@ -7,7 +7,7 @@ ghost use Rattle.tuner.specs.Calls.{Call, call_of};
 ghost use Rattle.tuner.specs.Causes.{HasCause};
 ghost use Rattle.tuner.specs.Lines;
 ghost use Rattle.tuner.specs.PrintedTexts.{Ending, Reported};
-ghost use Rattle.tuner.specs.Promises.{AbortSentence, Conducted, Headline, IsAbout, IsComplete, PrintsFirst, RefusesFaulty, RefusesFocused, RefusesMisused, RefusesUnseated, Starts};
+ghost use Rattle.tuner.specs.Promises.{AbortSentence, Conducted, Headline, IsAbout, IsComplete, PrintsFirst, RefusesFaulty, RefusesMisused, RefusesUnseated, Starts};
 ghost use Rattle.tuner.specs.Refusals.{ReportsMisuse, ReportsRefusal};
 
 use crate::finishing::run_search;
@@ -15,10 +15,11 @@ use crate::lines::{bad_file_line, read_fault_line, seats_line, usage_line};
 use crate::problem::Problem;
 use crate::reading::problems::read_problem;
 use crate::reading::refusal::Refusal;
-use crate::saying::{say, say_made, say_no_memory};
+use crate::saying::{say_made, say_no_memory};
 use crate::seat::Seat;
 use crate::status::Status;
 use basic_ils::Basic;
+use focused_ils::Focused;
 use ils_frame::Ils;
 use outside::{Files, Sink, Spawner};
 use plain_text::Text;
@@ -69,7 +70,7 @@ fn refuse_seats<O: Sink>(alloc: Global, asked: u32, given: u32, out: &mut O) -> 
 }
 
 /// Runs the search of a problem on the first seat, where there are as many seats as it asks
-/// for and its approach is built. It may wait.
+/// for. It may wait.
 fn run_problem<R: Wait, O: Sink, S: Spawner>(
     rt: &R,
     alloc: Global,
@@ -85,13 +86,11 @@ fn run_problem<R: Wait, O: Sink, S: Spawner>(
     if seats.len() < workers as usize {
         return refuse_seats(alloc, workers, seats.len() as u32, out);
     }
+    let seat = &mut seats[0];
+    seat.clear();
     match problem.approach() {
-        Approach::Focused => say(out, b"unbuilt\n", Status::Unbuilt),
-        Approach::Basic => {
-            let seat = &mut seats[0];
-            seat.clear();
-            run_search::<R, Ils<Basic>, O, S>(rt, alloc, problem, out, seat)
-        }
+        Approach::Basic => run_search::<R, Ils<Basic>, O, S>(rt, alloc, problem, out, seat),
+        Approach::Focused => run_search::<R, Ils<Focused>, O, S>(rt, alloc, problem, out, seat),
     }
 }
 
@@ -171,7 +170,6 @@ pub fn tune<R: Wait, F: Files, O: Sink, S: Spawner + Send>(
     ensures usage { RefusesMisused words.now result }
     ensures bad_file { RefusesFaulty words.now (F.told files.old) result }
     ensures too_few { RefusesUnseated words.now (F.told files.old) (length seats.old) result }
-    ensures unbuilt { RefusesFocused words.now (F.told files.old) (length seats.old) result }
 
     // Where files and seats work and nothing aborts, the answer is Ok, NoMemory or WriteFault.
     ensures complete { IsComplete words.now (F.told files.old) (F.told files.new) S.truth seats.old seats.new result }

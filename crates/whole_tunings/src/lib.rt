@@ -5,6 +5,8 @@
 #[cfg(test)]
 mod checks;
 #[cfg(test)]
+mod focused;
+#[cfg(test)]
 mod scenarios;
 #[cfg(test)]
 mod searches;

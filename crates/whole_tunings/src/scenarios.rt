@@ -231,7 +231,10 @@ fn ten_comparisons_find_the_random_heuristic(rt: HostRuntime) {
 }
 
 /// The words for one comparison of the usual scenario.
-const SAPS_WORDS: &str =
+const USUAL_SAPS: &str = "-scenariofile|saps|-maxComparisons|1|-numRun|1|-pair_order|file";
+
+/// The same by BasicILS.
+const BASIC_SAPS: &str =
     "-scenariofile|saps|-maxComparisons|1|-numRun|1|-pair_order|file|-approach|basic";
 
 /// A scenario as the quickstart guide of ParamILS has it.
@@ -287,48 +290,50 @@ fn are_all_in(folders: &str, folder: &str) -> bool {
     true
 }
 
-/// Whether one comparison of the usual scenario over these instances is printed, its children
-/// are started in its folder, and no read failed. The opening evaluation has 100 runs, and so
-/// has that of the settings drawn for the comparison, which tie.
+/// Whether one comparison of the usual scenario over these instances is printed, so many children
+/// are started in its folder, and no read failed.
 fn usual_is_read<R: Wait>(
     rt: &R,
     alloc: Global,
+    words: &str,
     instances: &str,
     printed: &str,
+    starts: usize,
     first: &str,
 ) -> Result<bool, Memory> {
-    let ran = ran_usual(rt, alloc, SAPS_WORDS, instances)?;
-    let right = has_printed(&ran, printed) && has_started(&ran, 200, first);
+    let ran = ran_usual(rt, alloc, words, instances)?;
+    let right = has_printed(&ran, printed) && has_started(&ran, starts, first);
     Ok(right && are_all_in(ran.folders.as_str(), "example_saps") && ran.unread == 0)
 }
 
 #[test]
 fn a_usual_scenario_is_read_as_it_stands(rt: HostRuntime) {
-    for (instances, printed, first) in &[
+    // By BasicILS the default settings and those that are drawn for the comparison have 100 runs
+    // each, and tie. By FocusedILS they tie on one run, and get two more each.
+    for (words, instances, printed, starts, first) in &[
         (
+            BASIC_SAPS,
             SAPS_INSTANCES,
             "0 100 399.000000 alpha=1.189 ps=0.1 rho=0.5 wp=0.03\nend 1 100 399.000000 alpha=1.189 ps=0.1 rho=0.5 wp=0.03\n",
+            200,
             "ruby saps_wrapper.rb cnf/a.cnf 0 5.000000 2147483647 1 -alpha 1.189 -ps 0.1 -rho 0.5 -wp 0.03\n",
         ),
         (
+            BASIC_SAPS,
             SAPS_SECONDS,
             "0 100 100.000000 alpha=1.189 ps=0.1 rho=0.5 wp=0.03\nend 1 100 100.000000 alpha=1.189 ps=0.1 rho=0.5 wp=0.03\n",
+            200,
+            "ruby saps_wrapper.rb cnf/a.cnf 1111 5.000000 2147483647 1 -alpha 1.189 -ps 0.1 -rho 0.5 -wp 0.03\n",
+        ),
+        (
+            USUAL_SAPS,
+            SAPS_SECONDS,
+            "0 0 0.000000 alpha=1.189 ps=0.1 rho=0.5 wp=0.03\nend 1 3 3.000000 alpha=1.189 ps=0.1 rho=0.5 wp=0.03\n",
+            6,
             "ruby saps_wrapper.rb cnf/a.cnf 1111 5.000000 2147483647 1 -alpha 1.189 -ps 0.1 -rho 0.5 -wp 0.03\n",
         ),
     ] {
-        let right = usual_is_read(&rt, rt.alloc(), instances, printed, first);
-        check(&rt, matches!(right, Ok(true)), instances);
+        let right = usual_is_read(&rt, rt.alloc(), words, instances, printed, *starts, first);
+        check(&rt, matches!(right, Ok(true)), printed);
     }
-}
-
-/// Whether the usual scenario by itself asks for what isn't built.
-fn usual_is_unbuilt<R: Wait>(rt: &R, alloc: Global) -> Result<bool, Memory> {
-    let ran = ran_usual(rt, alloc, "-scenariofile|saps", SAPS_INSTANCES)?;
-    Ok(ran.status == Status::Unbuilt && ran.printed.as_slice() == b"unbuilt\n".as_slice())
-}
-
-#[test]
-fn a_usual_scenario_asks_for_focused_search(rt: HostRuntime) {
-    let right = usual_is_unbuilt(&rt, rt.alloc());
-    check(&rt, matches!(right, Ok(true)), "focused search");
 }

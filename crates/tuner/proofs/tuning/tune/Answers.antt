@@ -1,4 +1,4 @@
-use Rattle.tuner.proofs.PromiseLemmas.{cause_of, starts_of, badly_written, headline_of, abort_sentence_of, prints_first, ending_of, refuses_misused, refuses_faulty, refuses_unseated, refuses_focused, complete_of}
+use Rattle.tuner.proofs.PromiseLemmas.{cause_of, starts_of, badly_written, headline_of, abort_sentence_of, prints_first, ending_of, refuses_misused, refuses_faulty, refuses_unseated, complete_of}
 use Rattle.tuner.proofs.tuning.tune.Goals as goal
 
 pub returns-clause-headline : goal.returns-clause-headline
@@ -21,9 +21,6 @@ returns-clause-bad_file g c = refuses_faulty _ _ (cause_of _ _ _ _ c.conduct.ens
 
 pub returns-clause-too_few : goal.returns-clause-too_few
 returns-clause-too_few g c = refuses_unseated _ _ (cause_of _ _ _ _ c.conduct.ensures.ending)
-
-pub returns-clause-unbuilt : goal.returns-clause-unbuilt
-returns-clause-unbuilt g c = refuses_focused _ _ (cause_of _ _ _ _ c.conduct.ensures.ending)
 
 pub returns-clause-complete : goal.returns-clause-complete
 returns-clause-complete g c = complete_of _ _ (cause_of _ _ _ _ c.conduct.ensures.ending)
