@@ -57,12 +57,16 @@ module _ (n : ℕ) (t : Tally) (r : Reply) where
     where
       high : (r : Reply) → decision_in (phase_at t.last (if is_overtaken t.last turn.high turn.places then High turn else place_next n t.counts t.bonus (High turn) r))
           ≡ decision_in (phase_at (last_after t.last (question_at t.last (High turn)) r) (place_after n t (High turn) r))
-      high (Exact x) = decision-last (if is_overtaken t.last turn.high turn.places then High turn else Low turn x.0) t.last (last_after t.last (question_at t.last (High turn)) (Exact x))
+      high (Exact x) = decision-last (if is_overtaken t.last turn.high turn.places then High turn else Low turn x.0)
+          t.last (last_after t.last (question_at t.last (High turn)) (Exact x))
       high Exceeds = decision-last (if is_overtaken t.last turn.high turn.places then High turn else Compared false) t.last t.last
   same_decision (Low turn bound) =
+      let later : Counts = raised t.counts turn.low turn.places in
       ap (λ b. decision_in (phase_at t.last (place_after_turn n t.counts t.bonus turn b (high_dominates bound r)))) (low_dominates-raised t.counts turn r)
-      ∙ decision-turn n t.counts (raised t.counts turn.low turn.places) t.bonus turn (low_dominates (raised t.counts turn.low turn.places) turn.high turn.places r) (high_dominates bound r) t.last (last_after t.last (question_at t.last (Low turn bound)) r)
-  same_decision (Further θ m) = decision-last (if is_overtaken t.last θ m then Further θ m else Compared true) t.last (last_after t.last (question_at t.last (Further θ m)) r)
+      ∙ decision-turn n t.counts later t.bonus turn (low_dominates later turn.high turn.places r) (high_dominates bound r)
+      t.last (last_after t.last (question_at t.last (Low turn bound)) r)
+  same_decision (Further θ m) = decision-last (if is_overtaken t.last θ m then Further θ m else Compared true)
+      t.last (last_after t.last (question_at t.last (Further θ m)) r)
   same_decision (Compared won) = refl
 
   pub decided-so : (place : Place) (o : Option Bool) → ((most bonus : ℕ) → o ≡ decision_in (phase_at t.last (if is_incumbent_first t.last place then place else place_next most t.counts bonus place r)))

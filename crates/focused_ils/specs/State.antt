@@ -51,9 +51,13 @@ abbrev pub one_of : Bool → Settings → Settings → Settings
 one_of true θ φ = θ
 one_of false θ φ = φ
 
+-- an evaluation in full, of the incumbent or of another configuration
+abbrev pub full_where : (first : Bool) → Incumbent → Settings → ℕ → Question
+full_where first last θ n = record { config = one_of first last.config θ; places = n; bound = None }
+
 -- an evaluation in full; the incumbent goes first where it would be overtaken
 abbrev pub in_full : Incumbent → Settings → ℕ → Question
-in_full last θ n = record { config = one_of (is_overtaken last θ n) last.config θ; places = n; bound = None }
+in_full last θ n = full_where (is_overtaken last θ n) last θ n
 
 -- the evaluation that is asked for; where none is, that of the incumbent on no place
 abbrev pub question_at : Incumbent → Place → Question

@@ -7,7 +7,7 @@ use Rattle.std.proofs.Math.Bool.{and-false, and-true}
 use Rattle.objective.specs.Costs.{Table}
 use Rattle.param_space.specs.Space.{defaults}
 use Rattle.param_space.specs.Configurations.{IsConfig}
-use Rattle.uncapped.specs.Procedure.{Settings, Sums, Question, Incumbent, PlainState, Goes, Ends, Aborted, goes_on, ◌>>=◌, give}
+use Rattle.uncapped.specs.Procedure.{Settings, Sums, Question, Incumbent, PlainState, Step, Goes, Ends, Aborted, goes_on, ◌>>=◌, give}
 use Rattle.uncapped.specs.Setup.{Setup}
 use Rattle.uncapped.specs.Evaluation.{after_ask, evaluate, better_focused}
 use Rattle.uncapped.specs.Uncapped.{opening_focused, at_first, last_of}
@@ -17,13 +17,13 @@ use Rattle.ils_face.proofs.Setups.{setup_of-numbers, SetupOf}
 use Rattle.ils_face.specs.Follows.{sums_under}
 use Rattle.ils_face.specs.Replies.{reply_up_to, cost_asked}
 use Rattle.ils_face.specs.declared.asks.Reply.{Reply}
-use Rattle.ils_face.specs.declared.asks.Reply.TheVariants.{Exact, Exceeds}
+use Rattle.ils_face.specs.declared.asks.Reply.TheVariants.{Exceeds}
 use Rattle.ils_frame.specs.Comparers.{Asking, question_in, decision_in, Advanced, GoesOn, Starts, AreCostsKnown, opened_state, Keeps}
 use Rattle.ils_frame.proofs.CountedCosts.{counts_after-known}
 use Rattle.focused_ils.specs.Counts.{Counts, count_in, raised}
-use Rattle.focused_ils.specs.State.{Turn, Place, Opened, High, Low, Further, Compared, Tally, State, is_overtaken, one_of, question_at, phase_at, is_better, is_extended, entry, last_where, last_after, entry_where, added_by, low_dominates, high_dominates, first_in, first_dominates, place_by, next_turn, place_after_turn, after_evaluation, win_where, replied_by, bonus_next, cleared_at, decision_after, turns_after, coming_at, coming_in, focused_parts, state_from, first_state, HasMostRuns, IsTurn, IsPlaceFit, IsFit, IsBound, StandsAt, Stands}
+use Rattle.focused_ils.specs.State.{Turn, Place, Opened, High, Low, Further, Compared, Tally, State, is_overtaken, one_of, full_where, question_at, phase_at, is_better, is_extended, entry, last_where, last_after, entry_where, added_by, low_dominates, high_dominates, first_in, first_dominates, place_by, next_turn, place_after_turn, after_evaluation, win_where, replied_by, bonus_next, cleared_at, decision_after, turns_after, turn_from_low, coming_at, coming_in, focused_parts, state_from, first_state, HasMostRuns, IsTurn, IsPlaceFit, IsFit, IsBound, StandsAt, Stands}
 use Rattle.focused_ils.specs.Laws.Counting.{count-none, raised-itself, raised-grows, raised-same}
-use Rattle.focused_ils.specs.Laws.Tallies.{not_overtaken, extended-where, no_better-itself}
+use Rattle.focused_ils.specs.Laws.Tallies.{exactly, not_overtaken, extended-where, no_better-itself}
 use Rattle.focused_ils.specs.Laws.SteadyLaw.{at_question}
 use Rattle.focused_ils.specs.Laws.Evaluations.{IsIncumbent, evaluate-overtaken, evaluate-known, evaluate-unknown, evaluate-stopped}
 use Rattle.focused_ils.specs.Laws.Turns.{turn-ends, begins-so}
@@ -32,7 +32,7 @@ use Rattle.focused_ils.specs.Laws.Turns.{turn-ends, begins-so}
 
 module _ (sums : Sums) (last : Incumbent) (cost : sums last.config last.runs ≡ Some last.sum) (q : Question) (x : ℕ) (e : cost_asked sums q ≡ Some x) where
   -- the cost of the incumbent's runs is known after it
-  cost_after : sums (last_after last q (Exact (record { 0 = x }))).config (last_after last q (Exact (record { 0 = x }))).runs ≡ Some (last_after last q (Exact (record { 0 = x }))).sum
+  cost_after : sums (last_after last q (exactly x)).config (last_after last q (exactly x)).runs ≡ Some (last_after last q (exactly x)).sum
   cost_after = at_either (is_better last q.config q.places x) (is_extended last q.config q.places) refl
     where
       at_either : (b d : Bool) → is_extended last q.config q.places ≡ d
@@ -47,7 +47,7 @@ module _ (sums : Sums) (last : Incumbent) (cost : sums last.config last.runs ≡
       cc
 
   -- on the incumbent's places, that one costs no more after it
-  least_after : q.places ≡ (last_after last q (Exact (record { 0 = x }))).runs → (last_after last q (Exact (record { 0 = x }))).sum ≤ x
+  least_after : q.places ≡ (last_after last q (exactly x)).runs → (last_after last q (exactly x)).sum ≤ x
   least_after = at_either (is_better last q.config q.places x) refl (is_extended last q.config q.places)
     where
       no_better : (b : Bool) → bytes_eq q.config last.config ≡ b → q.places ≡ last.runs → (not b && (q.places == last.runs) && nat_lt x last.sum) ≡ false → last.sum ≤ x
@@ -116,7 +116,7 @@ pub record StandsFor (sums : Sums) (t : Tally) (s : PlainState) : Type 0 where
 module _ (sums : Sums) (t : Tally) (s : PlainState) (k : StandsFor sums t s) where
   -- after a cost
   stands_after : (q : Question) (x : ℕ) → cost_asked sums q ≡ Some x
-      → StandsFor sums (record { counts = raised t.counts q.config q.places; last = last_after t.last q (Exact (record { 0 = x })); bonus = t.bonus }) (replied_by t.last q (Exact (record { 0 = x })) s)
+      → StandsFor sums (record { counts = raised t.counts q.config q.places; last = last_after t.last q (exactly x); bonus = t.bonus }) (replied_by t.last q (exactly x) s)
   stands_after q x e =
       let b : Bool = is_better t.last q.config q.places x in
       let d : Bool = is_extended t.last q.config q.places in
@@ -172,19 +172,22 @@ module _ (setup : Setup) (sums : Sums) (n : ℕ) (m : setup.max_runs ≡ n) (all
   is_incumbent : IsIncumbent sums t.last s
   is_incumbent = incumbent_so sums t s k f
 
+  -- what follows the evaluation of the one with more runs
+  abbrev after_high : Turn → Step ℕ → Step Bool
+  after_high turn p = goes_on (goes_on p (λ x. turn_from_low setup sums turn x)) (λ u. decision_after setup sums turn)
+
   -- the one with more runs, or the incumbent before it
   high_goes : (turn : Turn) (x : ℕ) (b : Bool) → is_overtaken t.last turn.high turn.places ≡ b → sums (one_of b t.last.config turn.high) turn.places ≡ Some x
       → coming_at setup sums (High turn) s
       ≡ coming_at setup sums (if b then High turn else Low turn x)
-      (if b then replied_by t.last (record { config = one_of b t.last.config turn.high; places = turn.places; bound = None }) (Exact (record { 0 = x })) s
-      else replied_by t.last (record { config = one_of b t.last.config turn.high; places = turn.places; bound = None }) (Exact (record { 0 = x })) s)
+      (if b then replied_by t.last (full_where b t.last turn.high turn.places) (exactly x) s
+      else replied_by t.last (full_where b t.last turn.high turn.places) (exactly x) s)
   high_goes turn x true o e = rw (no_better-itself t.last turn.places x)
-      (ap (λ p. goes_on (goes_on p (λ x. evaluate sums turn.low turn.places (Some x) >>= λ y. turns_after setup sums turn)) (λ u. decision_after setup sums turn)) (evaluate-overtaken sums t.last s is_incumbent turn.high turn.places None x o e))
-  high_goes turn x false o e =
-      ap (λ p. goes_on (goes_on p (λ x. evaluate sums turn.low turn.places (Some x) >>= λ y. turns_after setup sums turn)) (λ u. decision_after setup sums turn)) (evaluate-known sums t.last s is_incumbent turn.high turn.places None x o e)
+      (ap (after_high turn) (evaluate-overtaken sums t.last s is_incumbent turn.high turn.places None x o e))
+  high_goes turn x false o e = ap (after_high turn) (evaluate-known sums t.last s is_incumbent turn.high turn.places None x o e)
 
   high_bound : (turn : Turn) (x : ℕ) (b : Bool) → sums (one_of b t.last.config turn.high) turn.places ≡ Some x
-      → StandsAt sums (last_after t.last (record { config = one_of b t.last.config turn.high; places = turn.places; bound = None }) (Exact (record { 0 = x }))) (if b then High turn else Low turn x)
+      → StandsAt sums (last_after t.last (full_where b t.last turn.high turn.places) (exactly x)) (if b then High turn else Low turn x)
   high_bound turn x true e = tt
   high_bound turn x false e = record { cost = e; least = least_after sums t.last k.cost (record { config = turn.high; places = turn.places; bound = None }) x e }
 
@@ -196,21 +199,22 @@ module _ (setup : Setup) (sums : Sums) (n : ℕ) (m : setup.max_runs ≡ n) (all
   next_advanced (Further θ i) false q r p a = record { asks = a.asks; entries = a.entries; event = a.event }
   next_advanced (Compared won) false q r p a = a
 
-  high_replied : (turn : Turn) (x : ℕ) → cost_asked sums (question_at t.last (High turn)) ≡ Some x → GoesOnBy (High turn) (question_at t.last (High turn)) (Exact (record { 0 = x }))
+  high_replied : (turn : Turn) (x : ℕ) → cost_asked sums (question_at t.last (High turn)) ≡ Some x → GoesOnBy (High turn) (question_at t.last (High turn)) (exactly x)
   high_replied turn x e =
       let q : Question = question_at t.last (High turn) in
+      let o : Bool = is_overtaken t.last turn.high turn.places in
       record {
-        stays = with_place n sums _ _ _ _ (stands_next sums _ _ (stands_after sums t s k q x e) (High turn) (is_overtaken t.last turn.high turn.places)) (high_bound turn x (is_overtaken t.last turn.high turn.places) e);
-        same = high_goes turn x (is_overtaken t.last turn.high turn.places) refl e;
-        advanced = next_advanced (High turn) (is_overtaken t.last turn.high turn.places) q (Exact (record { 0 = x })) _ (advanced_by q x t.last s (is_better t.last q.config q.places x) k.compared);
+        stays = with_place n sums _ _ _ _ (stands_next sums _ _ (stands_after sums t s k q x e) (High turn) o) (high_bound turn x o e);
+        same = high_goes turn x o refl e;
+        advanced = next_advanced (High turn) o q (exactly x) _ (advanced_by q x t.last s (is_better t.last q.config q.places x) k.compared);
       }
 
   -- the winner, or the incumbent before it
   further_goes : (θ : Settings) (i x : ℕ) (b : Bool) → is_overtaken t.last θ i ≡ b → sums (one_of b t.last.config θ) i ≡ Some x
       → coming_at setup sums (Further θ i) s
       ≡ coming_at setup sums (if b then Further θ i else Compared true)
-      (if b then replied_by t.last (record { config = one_of b t.last.config θ; places = i; bound = None }) (Exact (record { 0 = x })) s
-      else record (replied_by t.last (record { config = one_of b t.last.config θ; places = i; bound = None }) (Exact (record { 0 = x })) s) { bonus = 0 })
+      (if b then replied_by t.last (full_where b t.last θ i) (exactly x) s
+      else record (replied_by t.last (full_where b t.last θ i) (exactly x) s) { bonus = 0 })
   further_goes θ i x true o e = rw (no_better-itself t.last i x, evaluate-overtaken sums t.last s is_incumbent θ i None x o e) refl
   further_goes θ i x false o e = rw (evaluate-known sums t.last s is_incumbent θ i None x o e) refl
 
@@ -218,14 +222,14 @@ module _ (setup : Setup) (sums : Sums) (n : ℕ) (m : setup.max_runs ≡ n) (all
   further_stands θ i true last = tt
   further_stands θ i false last = tt
 
-  further_replied : (θ : Settings) (i x : ℕ) → cost_asked sums (question_at t.last (Further θ i)) ≡ Some x → GoesOnBy (Further θ i) (question_at t.last (Further θ i)) (Exact (record { 0 = x }))
+  further_replied : (θ : Settings) (i x : ℕ) → cost_asked sums (question_at t.last (Further θ i)) ≡ Some x → GoesOnBy (Further θ i) (question_at t.last (Further θ i)) (exactly x)
   further_replied θ i x e =
       let q : Question = question_at t.last (Further θ i) in
       let o : Bool = is_overtaken t.last θ i in
       record {
-        stays = with_place n sums _ _ _ _ (stands_next sums _ _ (stands_after sums t s k q x e) (Further θ i) o) (further_stands θ i o (last_after t.last q (Exact (record { 0 = x }))));
+        stays = with_place n sums _ _ _ _ (stands_next sums _ _ (stands_after sums t s k q x e) (Further θ i) o) (further_stands θ i o (last_after t.last q (exactly x)));
         same = further_goes θ i x o refl e;
-        advanced = next_advanced (Further θ i) o q (Exact (record { 0 = x })) _ (advanced_by q x t.last s (is_better t.last q.config q.places x) k.compared);
+        advanced = next_advanced (Further θ i) o q (exactly x) _ (advanced_by q x t.last s (is_better t.last q.config q.places x) k.compared);
       }
 
   -- ---- the one that catches up
@@ -262,23 +266,35 @@ module _ (setup : Setup) (sums : Sums) (n : ℕ) (m : setup.max_runs ≡ n) (all
     after_low = win_where (is_better t.last turn.low turn.places x) turn.low turn.places x (after_evaluation its_question s)
 
     low_goes : coming_at setup sums (Low turn bound) s ≡ goes_on (turns_after setup sums turn after_low) (λ u. decision_after setup sums turn)
-    low_goes = ap (λ p. goes_on (goes_on p (λ y. turns_after setup sums turn)) (λ u. decision_after setup sums turn)) (evaluate-known sums t.last s is_incumbent turn.low turn.places (Some bound) x within e)
+    low_goes = ap (λ p. goes_on (goes_on p (λ y. turns_after setup sums turn)) (λ u. decision_after setup sums turn))
+        (evaluate-known sums t.last s is_incumbent turn.low turn.places (Some bound) x within e)
 
-    turn_goes : coming_at setup sums (Low turn bound) s ≡ coming_at setup sums (place_after_turn n counts_then t.bonus turn (nat_le (count_in counts_then turn.high) turn.places && nat_le x bound) (nat_le bound x)) after_low
+    -- the place after the turn, by who dominates
+    abbrev place_then : Place
+    place_then = place_after_turn n counts_then t.bonus turn (nat_le (count_in counts_then turn.high) turn.places && nat_le x bound) (nat_le bound x)
+
+    turn_goes : coming_at setup sums (Low turn bound) s ≡ coming_at setup sums place_then after_low
     turn_goes =
         let w : Bool = is_better t.last turn.low turn.places x in
+        let same : (φ : Settings) → after_low.counts φ ≡ count_in counts_then φ = counts_after_win its_question x t.last s w t.counts k.counts in
+        let bonus : after_low.bonus ≡ t.bonus = bonus_after its_question x t.last s w ∙ k.bonus in
         low_goes
-        ∙ turn-ends setup sums n m counts_then t.bonus turn.low turn.high turn.places after_low (counts_after_win its_question x t.last s w t.counts k.counts) (bonus_after its_question x t.last s w ∙ k.bonus) caught_up bound x still_ahead h.cost e turn.first_is_low turn.more
+        ∙ turn-ends setup sums n m counts_then t.bonus turn.low turn.high turn.places after_low same bonus caught_up bound x still_ahead h.cost e
+        turn.first_is_low turn.more
 
-    low_replied : (b : Bool) → nat_le x bound ≡ b → GoesOnBy (Low turn bound) its_question (if b then Exact (record { 0 = x }) else Exceeds)
+    low_replied : (b : Bool) → nat_le x bound ≡ b → GoesOnBy (Low turn bound) its_question (if b then exactly x else Exceeds)
     low_replied true u = record {
-      stays = with_place n sums _ _ _ _ (stands_after sums t s k its_question x e) (turn_stands turn (raised t.counts turn.low turn.places) (low_dominates counts_then turn.high turn.places (Exact (record { 0 = x }))) (high_dominates bound (Exact (record { 0 = x }))) (last_after t.last its_question (Exact (record { 0 = x }))));
+      stays = with_place n sums _ _ _ _ (stands_after sums t s k its_question x e)
+          (turn_stands turn counts_then (low_dominates counts_then turn.high turn.places (exactly x)) (high_dominates bound (exactly x)) (last_after t.last its_question (exactly x)));
       same = turn_goes ∙ rw (u, and-true (nat_le (count_in counts_then turn.high) turn.places)) refl;
       advanced = advanced_by its_question x t.last s (is_better t.last turn.low turn.places x) k.compared;
     }
     low_replied false u = record {
-      stays = with_place n sums _ _ _ _ (stands_exceeded sums t s k its_question x e) (turn_stands turn (raised t.counts turn.low turn.places) false true t.last);
-      same = turn_goes ∙ rw (not_better t.last turn.low turn.places bound x h.least u, u, and-false (nat_le (count_in counts_then turn.high) turn.places), le-leb bound x (let o : bound < x = leb-false x bound u in omega (arith, o))) refl;
+      stays = with_place n sums _ _ _ _ (stands_exceeded sums t s k its_question x e) (turn_stands turn counts_then false true t.last);
+      same =
+          let o : bound < x = leb-false x bound u in
+          turn_goes
+          ∙ rw (not_better t.last turn.low turn.places bound x h.least u, u, and-false (nat_le (count_in counts_then turn.high) turn.places), le-leb bound x (omega (arith, o))) refl;
       advanced = advanced_by its_question x t.last s false k.compared;
     }
 
@@ -306,7 +322,9 @@ module _ (setup : Setup) (sums : Sums) (n : ℕ) (m : setup.max_runs ≡ n) (all
   aborts Opened p = tt
   aborts (High turn) p = λ e. rw (in_full_aborts turn.high turn.places (is_overtaken t.last turn.high turn.places) refl e) refl
   aborts (Low turn bound) p = λ e.
-      rw (evaluate-unknown sums t.last s is_incumbent turn.low turn.places (Some bound) (not_overtaken t.last turn.low turn.places (let a : turn.places ≤ count_in t.counts turn.high = p.2 in let m : count_in t.counts turn.high ≤ t.last.runs = f.most turn.high in omega (arith, m, a))) e) refl
+      let a : turn.places ≤ count_in t.counts turn.high = p.2 in
+      let m : count_in t.counts turn.high ≤ t.last.runs = f.most turn.high in
+      rw (evaluate-unknown sums t.last s is_incumbent turn.low turn.places (Some bound) (not_overtaken t.last turn.low turn.places (omega (arith, m, a))) e) refl
   aborts (Further θ i) p = λ e. rw (in_full_aborts θ i (is_overtaken t.last θ i) refl e) refl
   aborts (Compared won) p = tt
 

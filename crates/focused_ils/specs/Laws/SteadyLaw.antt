@@ -11,9 +11,9 @@ use Rattle.ils_face.specs.declared.asks.Reply.{Reply}
 use Rattle.ils_face.specs.declared.asks.Reply.TheVariants.{Exact, Exceeds}
 use Rattle.ils_frame.specs.Comparers.{Phase, Ready, Asking, Decided, question_in, Answered, Begun, InRange, IsSteadyComparer}
 use Rattle.focused_ils.specs.Counts.{Counts, count_in, raised}
-use Rattle.focused_ils.specs.State.{Turn, Place, Opened, High, Low, Further, Compared, Tally, State, is_overtaken, one_of, in_full, question_at, phase_at, last_after, first_in, first_dominates, place_by, next_turn, place_after_turn, low_dominates, high_dominates, place_after, tally_after, first_turn, one_where, left_at, focused_parts, first_incumbent, state_from, first_state, HasMostRuns, IsTurn, IsPlaceFit, IsFit}
+use Rattle.focused_ils.specs.State.{Turn, Place, Opened, High, Low, Further, Compared, Tally, State, is_overtaken, one_of, full_where, in_full, question_at, phase_at, last_after, first_in, first_dominates, place_by, next_turn, place_after_turn, low_dominates, high_dominates, place_after, tally_after, first_turn, one_where, left_at, focused_parts, first_incumbent, state_from, first_state, HasMostRuns, IsTurn, IsPlaceFit, IsFit}
 use Rattle.focused_ils.specs.Laws.Counting.{count-none, raised-new, raised-grows, raised-most}
-use Rattle.focused_ils.specs.Laws.Tallies.{overtaken-where, not_overtaken, not_overtaken-due, last-extended, last-compared, last-earned, most-kept, most-after, trajectory-after, earlier-after, entered-after}
+use Rattle.focused_ils.specs.Laws.Tallies.{exactly, overtaken-where, not_overtaken, not_overtaken-due, last-extended, last-compared, last-earned, most-kept, most-after, trajectory-after, earlier-after, entered-after}
 
 -- ---- questions
 
@@ -115,17 +115,30 @@ module _ (allowed : Settings → Type 0) (n : ℕ) where
       q = question_at t.last (High turn)
 
       high : FitAfter t (High turn) (question_at t.last (High turn))
-      high (Exact x) fits = high_fit (last_after t.last q (Exact x)) (still_later t.last q (Exact x) f.0) (if is_overtaken t.last turn.high turn.places then t.bonus else t.bonus) t.counts turn t.last.config x.0 (is_overtaken t.last turn.high turn.places) f.1
+      high (Exact x) fits =
+          let o : Bool = is_overtaken t.last turn.high turn.places in
+          high_fit (last_after t.last q (Exact x)) (still_later t.last q (Exact x) f.0) (if o then t.bonus else t.bonus) t.counts turn t.last.config x.0 o f.1
       high Exceeds fits = absurd fits
-  place_fit t (Low turn bound) m few f = λ r fits.
-      turn_fit (last_after t.last (question_at t.last (Low turn bound)) r) (still_later t.last (question_at t.last (Low turn bound)) r f.0) t.bonus t.counts turn t.bonus (low_dominates (raised t.counts turn.low turn.places) turn.high turn.places r) (high_dominates bound r) f.1 f.2 (let h : count_in t.counts turn.high ≤ t.last.runs = m.most turn.high in omega (arith, h, few))
+  place_fit t (Low turn bound) m few f = low
+    where
+      q : Question
+      q = question_at t.last (Low turn bound)
+
+      within : count_in t.counts turn.high ≤ n
+      within = let h : count_in t.counts turn.high ≤ t.last.runs = m.most turn.high in omega (arith, h, few)
+
+      low : FitAfter t (Low turn bound) (question_at t.last (Low turn bound))
+      low r fits = turn_fit (last_after t.last q r) (still_later t.last q r f.0) t.bonus t.counts turn t.bonus
+          (low_dominates (raised t.counts turn.low turn.places) turn.high turn.places r) (high_dominates bound r) f.1 f.2 within
   place_fit t (Further θ i) m few f = further
     where
       q : Question
       q = question_at t.last (Further θ i)
 
       further : FitAfter t (Further θ i) (question_at t.last (Further θ i))
-      further (Exact x) fits = further_fit (last_after t.last q (Exact x)) (still_later t.last q (Exact x) f.0) (if is_overtaken t.last θ i then t.bonus else 0) t.counts t.last.config θ i (is_overtaken t.last θ i) f.1 f.2 f.3
+      further (Exact x) fits =
+          let o : Bool = is_overtaken t.last θ i in
+          further_fit (last_after t.last q (Exact x)) (still_later t.last q (Exact x) f.0) (if o then t.bonus else 0) t.counts t.last.config θ i o f.1 f.2 f.3
       further Exceeds fits = absurd fits
   place_fit t (Compared won) m few f = tt
 
@@ -135,7 +148,7 @@ module _ (allowed : Settings → Type 0) (n : ℕ) where
   MostAfter t place q = (r : Reply) → Fits (ask_of q.config q.places q.bound) r → HasMostRuns (tally_after t place r)
 
   most_in_full : (t : Tally) (θ : Settings) (m bonus x : ℕ) → HasMostRuns t
-      → HasMostRuns (record { counts = raised t.counts (in_full t.last θ m).config m; last = last_after t.last (in_full t.last θ m) (Exact (record { 0 = x })); bonus = bonus })
+      → HasMostRuns (record { counts = raised t.counts (in_full t.last θ m).config m; last = last_after t.last (in_full t.last θ m) (exactly x); bonus = bonus })
   most_in_full t θ m bonus x f = most-after t f (in_full t.last θ m).config m bonus x (not_overtaken-due t.last θ m (is_overtaken t.last θ m) refl)
 
   tally_fit : (t : Tally) (place : Place) → HasMostRuns t → IsPlaceFit allowed n t place → IfSome (question_in (phase_at t.last place)) (MostAfter t place)
@@ -205,14 +218,14 @@ module _ (n : ℕ) where
   few_where false = omega arith
 
   high_nearer : (last : Incumbent) (turn : Turn) (x : ℕ) (b : Bool) → is_overtaken last turn.high turn.places ≡ b
-      → left_at (last_after last (record { config = one_of b last.config turn.high; places = turn.places; bound = None }) (Exact (record { 0 = x }))) (if b then High turn else Low turn x) < 3 * turn.more + 4 + one_where b
+      → left_at (last_after last (full_where b last turn.high turn.places) (exactly x)) (if b then High turn else Low turn x) < 3 * turn.more + 4 + one_where b
   high_nearer last turn x true o =
       let h : last.runs < turn.places = (overtaken-where last turn.high turn.places o).1 in
       rw (last-extended last turn.places x None h, not_overtaken (record last { runs = turn.places; sum = x }) turn.high turn.places (omega arith)) (omega arith)
   high_nearer last turn x false o = omega arith
 
   further_nearer : (last : Incumbent) (θ : Settings) (m x : ℕ) (b : Bool) → is_overtaken last θ m ≡ b
-      → left_at (last_after last (record { config = one_of b last.config θ; places = m; bound = None }) (Exact (record { 0 = x }))) (if b then Further θ m else Compared true) < 1 + one_where b
+      → left_at (last_after last (full_where b last θ m) (exactly x)) (if b then Further θ m else Compared true) < 1 + one_where b
   further_nearer last θ m x true o =
       let h : last.runs < m = (overtaken-where last θ m o).1 in
       rw (last-extended last m x None h, not_overtaken (record last { runs = m; sum = x }) θ m (omega arith)) (omega arith)

@@ -14,6 +14,10 @@ use Rattle.focused_ils.specs.Counts.{count_in, raised}
 use Rattle.focused_ils.specs.State.{Tally, is_overtaken, one_of, is_better, is_extended, entry, last_where, last_after, entry_where, added_by, HasMostRuns}
 use Rattle.focused_ils.specs.Laws.Counting.{same_config, is_itself, other_way, raised-itself, raised-other, raised-most}
 
+-- the reply of a cost
+abbrev pub exactly : ℕ → Reply
+exactly x = Exact (record { 0 = x })
+
 -- ---- tests
 
 -- another configuration is to be evaluated on more places
@@ -73,7 +77,7 @@ no_better-itself last n x = rw (is_itself last.config) refl
 
 -- the incumbent after its own evaluation on more places
 pub last-extended : (last : Incumbent) (n x : ℕ) (bound : Option ℕ) → last.runs < n
-    → last_after last (record { config = last.config; places = n; bound = bound }) (Exact (record { 0 = x })) ≡ record last { runs = n; sum = x }
+    → last_after last (record { config = last.config; places = n; bound = bound }) (exactly x) ≡ record last { runs = n; sum = x }
 last-extended last n x bound h = rw (no_better-itself last n x, is_itself last.config, lt-ltb last.runs n h) refl
 
 -- ---- the incumbent
