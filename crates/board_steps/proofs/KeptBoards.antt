@@ -1,0 +1,356 @@
+-- What each step keeps of a board's invariant, and what it makes of the plain board.
+use Rattle.std.proofs.Common.{ℕ, suc, zero, ◌≡◌, ◌++◌, ◌||◌, Bool, true, false, List, [], ◌∷◌, Some, None, All, IsTrue, length, map, refl, sym, ap, ◌∙◌, arith, subst, nat_lt, if◌then◌else◌}
+use Rattle.std.specs.Cmp.Lexicographic.{pointwise}
+use Rattle.std.proofs.lemmas.List.Elements.{All-nil, All-push, All-weaker, All-map}
+use Rattle.objective.specs.declared.Answer.{Answer}
+use Rattle.ils_face.specs.declared.asks.Reply.{Reply}
+use Rattle.ils_face.specs.Rules.{Rules}
+use Rattle.ils_face.specs.Views.{View}
+use Rattle.objective.specs.declared.Micros.{Micros}
+use Rattle.run_cache.specs.declared.cell.Cell.{Cell}
+use Rattle.run_cache.specs.declared.known.Known.TheVariants.{Nothing}
+use Rattle.run_cache.specs.Caches.{Cached, known_in, known_at, known_after, known_of, lesson_in, conflicts_after, has_place_in}
+use Rattle.run_cache.specs.Learning.{lesson}
+use Rattle.capping.specs.declared.verdicts.Verdict.TheVariants as verdict
+use Rattle.predictor.specs.declared.wish.Wish.{Wish}
+use Rattle.board_steps.specs.declared.answers.Phase.TheVariants as phase
+use Rattle.board_steps.specs.declared.answers.Taken.TheVariants as taken
+use Rattle.board_steps.specs.declared.events.Event.TheVariants as event
+use Rattle.board_steps.specs.declared.tickets.LiveTicket.{LiveTicket}
+use Rattle.board_steps.specs.declared.tickets.Ticket.{Ticket}
+use Rattle.board_steps.specs.Boards.{BoardState, PlainBoard, opening, plain}
+use Rattle.board_steps.specs.BoardInvariant.{BoardInvariant}
+use Rattle.board_steps.specs.Ledgers.{take_event, unmarked, shunned_after}
+use Rattle.board_steps.specs.Numbering.{IsRunnable, IsRunnableTake, IsTicket, tickets_of}
+use Rattle.board_steps.specs.Phases.{phase_of, wishes_on, asked_cell}
+use Rattle.board_steps.specs.Problem.{Problem}
+use Rattle.board_steps.specs.ProblemRuns.{key_of}
+use Rattle.board_steps.specs.Steps.{taken_on, with_ticket, known_from, is_conflict, with_answer, with_loss, with_kill, with_reply, with_wishes, with_abort, same_wish, marked_board, stopped_board, resumed_board}
+use Rattle.board_steps.specs.Tickets.{live_at, place_of, without, marked, marked_if, mark_events, has_ticket}
+use Rattle.board_steps.proofs.LiveTickets.{tickets-marked, tickets-marked_if, tickets-push, none-of-cell, numbered-without, all-without, numbered-marks}
+use Rattle.board_steps.proofs.MarkedTickets.{HaveOwnNumbers, replayed-marks}
+use Rattle.board_steps.proofs.Numbered.{numbered-other, numbered-none, numbered-take, all-remove}
+use Rattle.board_steps.proofs.Replayed.{opening-replayed, replayed-reply, replayed-abort, replayed-take, replayed-answer, replayed-loss, replayed-kill, replayed-wishes, replayed-stop, replayed-resume}
+
+-- what is known of a row without places
+nothing-known : (place : ℕ) → known_at [] place ≡ Nothing
+nothing-known zero = refl
+nothing-known (suc before) = refl
+
+-- all live tickets but one
+live-without : (P : LiveTicket → Type 0) (live : List LiveTicket) (number : ℕ) → All P live → All P (without live number)
+unfolding without
+live-without P live number all = all-remove P live (place_of live number) all
+
+-- every ticket of marked ones is marked
+all-marked : (live : List LiveTicket) → All (λ l. l.marked ≡ true) (map marked live)
+all-marked live = All-map (λ l. l.marked ≡ true) marked live (λ k d within. refl)
+
+-- what an opening board holds
+abbrev pub opening-state : Problem → BoardState
+opening-state problem = record {
+  problem = problem;
+  replies = [];
+  cache = record { limits = problem.rules.limits; conflicts = 0; rows = [] };
+  wishes = [];
+  live = [];
+  shunned = [];
+  next = 1;
+  stopped = false;
+  aborted = None;
+  journal = [];
+}
+
+-- a live ticket that is marked stays marked
+marked-stays : (p : LiveTicket → Bool) (l : LiveTicket) → l.marked ≡ true → (marked_if p l).marked ≡ true
+marked-stays p l is = either (p l)
+  where
+    either : (unwanted : Bool) → (if unwanted then marked l else l).marked ≡ true
+    either true = refl
+    either false = is
+
+-- the ticket's cell has a place
+abbrev HasPlace : (List ℕ → ℕ → Bool) → Ticket → Type 0
+HasPlace has_place t = IsTrue (has_place t.cell.config t.cell.place)
+
+-- the live ticket is marked
+abbrev IsMarked : LiveTicket → Type 0
+IsMarked l = l.marked ≡ true
+
+module _ (shown : Rules → List Reply → View) where
+  -- a board after a step: the plain board that it is, and its invariant
+  pub record IsStep (b : BoardState) (after : PlainBoard) : Type 0 where
+    pub plain_is : plain b ≡ after
+    pub kept : BoardInvariant shown b
+
+  -- the opening board
+  pub step-opening : (problem : Problem) → IsStep (opening-state problem) (opening problem)
+  unfolding plain
+  step-opening problem =
+      let opened : plain (opening-state problem) ≡ opening problem = λ i. record (opening problem) { known = λ config place. nothing-known place i } in
+      record {
+        plain_is = opened;
+        kept = record {
+          limits = refl;
+          replays = opened ∙ opening-replayed shown problem;
+          numbering = record {
+            numbers = record {
+              first = omega arith;
+              taken = refl;
+              ended = tt;
+              once = λ n. omega arith;
+              cells = λ cell. omega arith;
+              each = All-nil (IsTicket problem 1);
+              takes = All-nil (IsRunnableTake problem.rules);
+            };
+            wishes = All-nil (λ w. IsRunnable problem.rules w.cell w.cutoff.0);
+            places = All-nil (HasPlace (has_place_in (opening-state problem).cache));
+          };
+          stopped = record { marked = λ is. All-nil IsMarked };
+        };
+      }
+
+  -- the cache has further places
+  pub step-places : (b : BoardState) (cache : Cached) → cache.limits ≡ b.cache.limits → known_in cache ≡ known_in b.cache → cache.conflicts ≡ b.cache.conflicts
+      → ((config : List ℕ) (place : ℕ) → IsTrue (has_place_in b.cache config place) → IsTrue (has_place_in cache config place))
+      → BoardInvariant shown b → IsStep (record b { cache = cache }) (plain b)
+  unfolding plain
+  step-places b cache limits known conflicts places inv =
+      let same : plain (record b { cache = cache }) ≡ plain b = λ i. record (plain b) { known = known i; conflicts = conflicts i } in
+      record {
+        plain_is = same;
+        kept = record {
+          limits = limits ∙ inv.limits;
+          replays = same ∙ inv.replays;
+          numbering = record {
+            numbers = inv.numbering.numbers;
+            wishes = inv.numbering.wishes;
+            places = All-weaker (HasPlace (has_place_in b.cache)) (HasPlace (has_place_in cache)) (λ t has. places t.cell.config t.cell.place has) (tickets_of b.live) inv.numbering.places;
+          };
+          stopped = record { marked = inv.stopped.marked };
+        };
+      }
+
+  -- the search is answered
+  pub step-reply : (b : BoardState) (r : Reply) (wishes : List Wish) → phase_of shown (plain b) ≡ phase.Open (verdict.Reply r)
+      → wishes ≡ wishes_on shown (record (plain b) { replies = b.replies ++ r ∷ [] })
+      → All (λ w. IsRunnable b.problem.rules w.cell w.cutoff.0) wishes → BoardInvariant shown b
+      → IsStep (record b { replies = b.replies ++ r ∷ []; wishes = wishes; journal = b.journal ++ event.Advance ∷ [] }) (with_reply shown (plain b) r)
+  unfolding plain with_reply
+  step-reply b r wishes stands wished runnable inv =
+      let is : plain (record b { replies = b.replies ++ r ∷ []; wishes = wishes; journal = b.journal ++ event.Advance ∷ [] }) ≡ with_reply shown (plain b) r =
+      λ i. record (with_reply shown (plain b) r) { wishes = wished i } in
+      record {
+        plain_is = is;
+        kept = record {
+          limits = inv.limits;
+          replays = is ∙ replayed-reply shown (plain b) r stands inv.replays;
+          numbering = record {
+            numbers = numbered-other b.problem (tickets_of b.live) b.next b.journal event.Advance refl refl tt inv.numbering.numbers;
+            wishes = runnable;
+            places = inv.numbering.places;
+          };
+          stopped = record { marked = inv.stopped.marked };
+        };
+      }
+
+  -- there are other wishes
+  pub step-wishes : (b : BoardState) (place : ℕ) (cutoff : Micros) (wishes : List Wish) → phase_of shown (plain b) ≡ phase.Open (verdict.Need place cutoff)
+      → wishes ≡ wishes_on shown (plain b) → pointwise same_wish b.wishes wishes ≡ false
+      → All (λ w. IsRunnable b.problem.rules w.cell w.cutoff.0) wishes → BoardInvariant shown b
+      → IsStep (record b { wishes = wishes; journal = b.journal ++ event.Advance ∷ [] }) (with_wishes shown (plain b))
+  unfolding plain with_wishes
+  step-wishes b place cutoff wishes stands wished other runnable inv =
+      let differ : pointwise same_wish b.wishes (wishes_on shown (plain b)) ≡ false = ap (pointwise same_wish b.wishes) (sym wished) ∙ other in
+      let changed = ap (λ t. if t then plain b else record (plain b) { wishes = wishes_on shown (plain b); journal = b.journal ++ event.Advance ∷ [] }) differ in
+      let other_wishes : plain (record b { wishes = wishes; journal = b.journal ++ event.Advance ∷ [] }) ≡ record (plain b) { wishes = wishes_on shown (plain b); journal = b.journal ++ event.Advance ∷ [] } =
+      λ i. record (plain b) { wishes = wished i; journal = b.journal ++ event.Advance ∷ [] } in
+      let is = other_wishes ∙ sym changed in
+      record {
+        plain_is = is;
+        kept = record {
+          limits = inv.limits;
+          replays = replayed-wishes shown (plain b) (plain (record b { wishes = wishes; journal = b.journal ++ event.Advance ∷ [] })) place cutoff stands (sym is) refl refl inv.replays;
+          numbering = record {
+            numbers = numbered-other b.problem (tickets_of b.live) b.next b.journal event.Advance refl refl tt inv.numbering.numbers;
+            wishes = runnable;
+            places = inv.numbering.places;
+          };
+          stopped = record { marked = inv.stopped.marked };
+        };
+      }
+
+  -- the walk of the present ask came to an abort
+  pub step-abort : (b : BoardState) (place : ℕ) (cell : Cell) → phase_of shown (plain b) ≡ phase.Open (verdict.Aborted place)
+      → cell ≡ asked_cell shown (plain b) place → BoardInvariant shown b
+      → IsStep (record b { aborted = Some cell; wishes = []; journal = b.journal ++ event.Advance ∷ [] }) (with_abort shown (plain b) place)
+  unfolding plain with_abort
+  step-abort b place cell stands cell_is inv =
+      let is : plain (record b { aborted = Some cell; wishes = []; journal = b.journal ++ event.Advance ∷ [] }) ≡ with_abort shown (plain b) place =
+      λ i. record (with_abort shown (plain b) place) { aborted = Some (cell_is i) } in
+      record {
+        plain_is = is;
+        kept = record {
+          limits = inv.limits;
+          replays = is ∙ replayed-abort shown (plain b) place stands inv.replays;
+          numbering = record {
+            numbers = numbered-other b.problem (tickets_of b.live) b.next b.journal event.Advance refl refl tt inv.numbering.numbers;
+            wishes = All-nil (λ w. IsRunnable b.problem.rules w.cell w.cutoff.0);
+            places = inv.numbering.places;
+          };
+          stopped = record { marked = inv.stopped.marked };
+        };
+      }
+
+  -- a ticket is taken, for a cell that has a place and no live ticket
+  pub step-take : (b : BoardState) (t : Ticket) → taken_on shown (plain b) ≡ taken.Ticket t → b.stopped ≡ false → t.number ≡ b.next
+      → t.run.key ≡ key_of b.problem t.cell → IsRunnable b.problem.rules t.cell t.run.cutoff.0 → has_ticket b.live t.cell ≡ false
+      → IsTrue (has_place_in b.cache t.cell.config t.cell.place) → BoardInvariant shown b
+      → IsStep (record b { live = b.live ++ unmarked t ∷ []; next = suc b.next; journal = b.journal ++ take_event t ∷ [] }) (with_ticket (plain b) t)
+  unfolding plain
+  step-take b t offered running number key runnable alone has_place inv =
+      let n = inv.numbering.numbers in
+      let ticket : IsTicket b.problem (suc b.next) t = record { first = omega (arith, number, n.first); below = omega (arith, number); key = key; runnable = runnable } in
+      record {
+        plain_is = refl;
+        kept = record {
+          limits = inv.limits;
+          replays = replayed-take shown (plain b) t offered inv.replays;
+          numbering = record {
+            numbers = rw (tickets-push b.live t) (numbered-take b.problem (tickets_of b.live) b.next b.journal t number ticket (none-of-cell b.live t.cell alone) n);
+            wishes = inv.numbering.wishes;
+            places = rw (tickets-push b.live t) (All-push (HasPlace (has_place_in b.cache)) (tickets_of b.live) t inv.numbering.places has_place);
+          };
+          stopped = record { marked = λ is. absurd (let e : true ≡ false = sym is ∙ running in cc) };
+        };
+      }
+
+  -- the answer of a live ticket is learnt
+  pub step-answer : (b : BoardState) (cache : Cached) (answer : Answer) (l : LiveTicket) → live_at b.live l.ticket.number ≡ Some l
+      → cache.limits ≡ b.cache.limits
+      → known_in cache ≡ known_after (known_in b.cache) l.ticket.cell (lesson_in b.cache l.ticket.cell l.ticket.run.cutoff.0 answer).known
+      → cache.conflicts ≡ conflicts_after b.cache.conflicts (lesson_in b.cache l.ticket.cell l.ticket.run.cutoff.0 answer).conflict
+      → has_place_in cache ≡ has_place_in b.cache → BoardInvariant shown b
+      → IsStep (record b { cache = cache; live = without b.live l.ticket.number; journal = b.journal ++ event.Record l.ticket.number answer ∷ [] })
+      (with_answer (plain b) answer l)
+  unfolding plain with_answer known_from is_conflict
+  step-answer b cache answer l found limits known conflicts places inv =
+      let n = l.ticket.number in
+      let before = known_of b.cache l.ticket.cell in
+      let cutoff = l.ticket.run.cutoff.0 in
+      let known_is = known ∙ ap (λ bounds. known_after (known_in b.cache) l.ticket.cell (lesson bounds before cutoff answer).known) inv.limits in
+      let conflicts_are = conflicts ∙ ap (λ bounds. conflicts_after b.cache.conflicts (lesson bounds before cutoff answer).conflict) inv.limits in
+      let is : plain (record b { cache = cache; live = without b.live n; journal = b.journal ++ event.Record n answer ∷ [] }) ≡ with_answer (plain b) answer l =
+      λ i. record (with_answer (plain b) answer l) { known = known_is i; conflicts = conflicts_are i } in
+      let Q : (List ℕ → ℕ → Bool) → Type 0 = λ has_place. All (HasPlace has_place) (tickets_of (without b.live n)) in
+      record {
+        plain_is = is;
+        kept = record {
+          limits = limits ∙ inv.limits;
+          replays = is ∙ replayed-answer shown (plain b) answer l found inv.replays;
+          numbering = record {
+            numbers = numbered-without b.problem b.live b.next b.journal l (event.Record n answer) found refl refl tt inv.numbering.numbers;
+            wishes = inv.numbering.wishes;
+            places = subst Q (sym places) (all-without (HasPlace (has_place_in b.cache)) b.live n inv.numbering.places);
+          };
+          stopped = record { marked = λ is. live-without IsMarked b.live n (inv.stopped.marked is) };
+        };
+      }
+
+  -- the run of a live ticket can't be made
+  pub step-loss : (b : BoardState) (l : LiveTicket) → live_at b.live l.ticket.number ≡ Some l → BoardInvariant shown b
+      → IsStep (record b { live = without b.live l.ticket.number; shunned = shunned_after b.shunned l.ticket; journal = b.journal ++ event.Lost l.ticket.number ∷ [] })
+      (with_loss (plain b) l)
+  unfolding plain with_loss
+  step-loss b l found inv =
+      let n = l.ticket.number in
+      record {
+        plain_is = refl;
+        kept = record {
+          limits = inv.limits;
+          replays = replayed-loss shown (plain b) l found inv.replays;
+          numbering = record {
+            numbers = numbered-without b.problem b.live b.next b.journal l (event.Lost n) found refl refl tt inv.numbering.numbers;
+            wishes = inv.numbering.wishes;
+            places = all-without (HasPlace (has_place_in b.cache)) b.live n inv.numbering.places;
+          };
+          stopped = record { marked = λ is. live-without IsMarked b.live n (inv.stopped.marked is) };
+        };
+      }
+
+  -- the run of a live ticket is given up
+  pub step-kill : (b : BoardState) (l : LiveTicket) → live_at b.live l.ticket.number ≡ Some l → BoardInvariant shown b
+      → IsStep (record b { live = without b.live l.ticket.number; journal = b.journal ++ event.Killed l.ticket.number ∷ [] }) (with_kill (plain b) l)
+  unfolding plain with_kill
+  step-kill b l found inv =
+      let n = l.ticket.number in
+      record {
+        plain_is = refl;
+        kept = record {
+          limits = inv.limits;
+          replays = replayed-kill shown (plain b) l found inv.replays;
+          numbering = record {
+            numbers = numbered-without b.problem b.live b.next b.journal l (event.Killed n) found refl refl tt inv.numbering.numbers;
+            wishes = inv.numbering.wishes;
+            places = all-without (HasPlace (has_place_in b.cache)) b.live n inv.numbering.places;
+          };
+          stopped = record { marked = λ is. live-without IsMarked b.live n (inv.stopped.marked is) };
+        };
+      }
+
+  -- live tickets are marked
+  pub step-marks : (b : BoardState) (p : LiveTicket → Bool) → BoardInvariant shown b
+      → IsStep (record b { live = map (marked_if p) b.live; journal = b.journal ++ mark_events p b.live }) (marked_board (plain b) p)
+  unfolding plain
+  step-marks b p inv =
+      let n = inv.numbering.numbers in
+      let own : HaveOwnNumbers b.live = λ number. omega (arith, n.once number) in
+      record {
+        plain_is = refl;
+        kept = record {
+          limits = inv.limits;
+          replays = replayed-marks shown (plain b) p own inv.replays;
+          numbering = record {
+            numbers = rw (tickets-marked_if p b.live) (numbered-marks b.problem (tickets_of b.live) b.next b.journal p b.live n);
+            wishes = inv.numbering.wishes;
+            places = rw (tickets-marked_if p b.live) inv.numbering.places;
+          };
+          stopped = record { marked = λ is. All-map IsMarked (marked_if p) b.live (All-weaker IsMarked (λ l. IsMarked (marked_if p l)) (marked-stays p) b.live (inv.stopped.marked is)) };
+        };
+      }
+
+  -- a board is stopped
+  pub step-stop : (b : BoardState) → b.stopped ≡ false → BoardInvariant shown b
+      → IsStep (record b { live = map marked b.live; stopped = true; journal = b.journal ++ event.Stop ∷ [] }) (stopped_board (plain b))
+  unfolding plain
+  step-stop b running inv = record {
+    plain_is = refl;
+    kept = record {
+      limits = inv.limits;
+      replays = replayed-stop shown (plain b) running inv.replays;
+      numbering = record {
+        numbers = rw (tickets-marked b.live) (numbered-other b.problem (tickets_of b.live) b.next b.journal event.Stop refl refl tt inv.numbering.numbers);
+        wishes = inv.numbering.wishes;
+        places = rw (tickets-marked b.live) inv.numbering.places;
+      };
+      stopped = record { marked = λ is. all-marked b.live };
+    };
+  }
+
+  -- a board goes on
+  pub step-resume : (b : BoardState) → (b.stopped || nat_lt 0 (length b.live)) ≡ true → BoardInvariant shown b
+      → IsStep (record b { live = []; stopped = false; journal = b.journal ++ event.Resume ∷ [] }) (resumed_board (plain b))
+  unfolding plain
+  step-resume b halted inv = record {
+    plain_is = refl;
+    kept = record {
+      limits = inv.limits;
+      replays = replayed-resume shown (plain b) halted inv.replays;
+      numbering = record {
+        numbers = numbered-other b.problem [] b.next b.journal event.Resume refl refl tt (numbered-none b.problem (tickets_of b.live) b.next b.journal inv.numbering.numbers);
+        wishes = inv.numbering.wishes;
+        places = All-nil (HasPlace (has_place_in b.cache));
+      };
+      stopped = record { marked = λ is. All-nil IsMarked };
+    };
+  }

@@ -1,0 +1,10 @@
+pub mod Problem
+pub mod ProblemRuns
+pub mod Tickets
+pub mod Ledgers
+pub mod Boards
+pub mod Phases
+pub mod Steps
+pub mod Replays
+pub mod Numbering
+pub mod BoardInvariant

@@ -1,0 +1,82 @@
+//! What is tuned.
+ghost use Rattle.std.specs.Prelude.{◌≡◌, ◌≤◌, IfOk, map};
+ghost use Rattle.param_space.specs.Space.{Belongs};
+ghost use Rattle.param_space.specs.Settings;
+ghost use Rattle.board_steps.specs.ProblemRuns;
+
+use ils_face::Rules;
+use instance_pairs::Pairs;
+use objective::Memory;
+use param_space::{Config, Space};
+use plain_text::{Items, Text};
+use run_cache::Cell;
+use std::alloc::Global;
+use std::marker::Model;
+use wrapper_lines::{Key, Setting};
+
+/// The rules of a search and the pairs that configurations are run on. Its type keeps that both
+/// have the same number of runs.
+#[derive(Drop)]
+pub struct Problem {
+    /// The rules of the search.
+    pub rules: Rules,
+    /// The pairs that configurations are run on.
+    pub pairs: Pairs,
+}
+
+impl Model for Problem {
+    ghost use Rattle.std.specs.Prelude.{◌≡◌};
+    ghost use Rattle.board_steps.specs.Problem as problem;
+
+    ghost Value = { problem.Problem };
+
+    ghost view = { λ p. record { rules = p.rules; pairs = p.pairs } };
+
+    ghost invariant = { λ p. p.rules.max_runs ≡ p.pairs.max_runs };
+}
+
+/// The settings of a configuration: each active parameter's name with its value.
+fn settings_of(alloc: Global, space: &Space, config: &Config) -> Result<Vec<Setting>, Memory>
+    requires { Belongs space.now.params config.now }
+    ensures { IfOk result (λ v. v.items ≡ map ProblemRuns.setting_from (Settings.active_values space.now config.now)) }
+{
+    let active = space.active_values(config)?;
+    let mut settings = Vec::new(alloc);
+    for named in &active {
+        settings.push(Setting {
+            name: Text::of(alloc, named.name)?,
+            value: Text::of(alloc, named.value)?,
+        })?;
+    }
+    Ok(settings)
+}
+
+impl Problem {
+    /// The same problem.
+    pub fn copy(&self) -> Result<Problem, Memory>
+        ensures { IfOk result (λ p. p ≡ self.now) }
+    {
+        Ok(Problem {
+            rules: self.rules.copy()?,
+            pairs: self.pairs.copy()?,
+        })
+    }
+
+    /// What a cell's run is of: the pair of its place, and its settings.
+    #[tactic(auto, unfolding(crate::specs::ProblemRuns::key_of))]
+    pub fn key_of(&self, alloc: Global, cell: &Cell) -> Result<Key, Memory>
+        requires belongs { Belongs self.now.rules.space.params cell.now.config }
+        requires first { 1 ≤ cell.now.place }
+        requires last { cell.now.place ≤ self.now.rules.max_runs }
+        ensures { IfOk result (λ k. k ≡ ProblemRuns.key_of self.now cell.now) }
+    {
+        let settings = settings_of(alloc, &self.rules.space, &cell.config)?;
+        let pair = self.pairs.pair(cell.place);
+        Ok(Key {
+            instance: Text::of(alloc, pair.instance)?,
+            specifics: Text::of(alloc, pair.specifics)?,
+            seed: pair.seed,
+            settings: Items::new(settings),
+        })
+    }
+}
