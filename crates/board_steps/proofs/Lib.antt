@@ -7,3 +7,4 @@ pub mod Replayed
 pub mod MarkedTickets
 pub mod SameTickets
 pub mod KeptBoards
+pub mod JournalRuns
