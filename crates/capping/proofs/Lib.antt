@@ -6,3 +6,5 @@ mod AbortedPlaces
 mod LearntAnswers
 pub mod Promises
 mod WalkSteps
+pub mod OtherCells
+pub mod AbortedAsks
