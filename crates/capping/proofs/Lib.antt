@@ -1,8 +1,8 @@
-mod ExactSums
-mod WalkEnds
-mod RepliedCosts
-mod NeededRuns
-mod AbortedPlaces
+pub mod ExactSums
+pub mod WalkEnds
+pub mod RepliedCosts
+pub mod NeededRuns
+pub mod AbortedPlaces
 mod LearntAnswers
 pub mod Promises
 mod WalkSteps
