@@ -8,3 +8,4 @@ pub mod MarkedTickets
 pub mod SameTickets
 pub mod KeptBoards
 pub mod JournalRuns
+pub mod AgreeingBoards
