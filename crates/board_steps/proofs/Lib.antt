@@ -9,3 +9,4 @@ pub mod SameTickets
 pub mod KeptBoards
 pub mod JournalRuns
 pub mod AgreeingBoards
+pub mod GivenTickets
