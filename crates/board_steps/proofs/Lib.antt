@@ -10,3 +10,5 @@ pub mod KeptBoards
 pub mod JournalRuns
 pub mod AgreeingBoards
 pub mod GivenTickets
+pub mod AskedTickets
+pub mod AbortedBoards
