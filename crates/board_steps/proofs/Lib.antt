@@ -12,3 +12,6 @@ pub mod AgreeingBoards
 pub mod GivenTickets
 pub mod AskedTickets
 pub mod AbortedBoards
+pub mod SummedReplies
+pub mod RecordedRuns
+pub mod RisingBoards

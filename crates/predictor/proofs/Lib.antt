@@ -1,6 +1,6 @@
 mod AddedRuns
 mod Turns
-mod PresentWishes
+pub mod PresentWishes
 mod NeededPlaces
 mod ChosenWishes
 mod FoundRuns
