@@ -15,3 +15,4 @@ pub mod AbortedBoards
 pub mod SummedReplies
 pub mod RecordedRuns
 pub mod RisingBoards
+pub mod KnownRanges

@@ -5,6 +5,6 @@ pub mod NeededRuns
 pub mod AbortedPlaces
 mod LearntAnswers
 pub mod Promises
-mod WalkSteps
+pub mod WalkSteps
 pub mod OtherCells
 pub mod AbortedAsks
