@@ -19,7 +19,7 @@ plus_none None = refl
 plus_none (Some x) = refl
 
 -- where a place has no cost there is no total from there on
-total_cost-none : (limits : Bounds) (T : Table) (θ : Settings) (done n : ℕ) → cost_of limits (T θ (suc done)) ≡ None → done < n
+pub total_cost-none : (limits : Bounds) (T : Table) (θ : Settings) (done n : ℕ) → cost_of limits (T θ (suc done)) ≡ None → done < n
     → total_cost limits T θ n ≡ None
 total_cost-none limits T θ done zero h inside = absurd (omega (arith, inside))
 total_cost-none limits T θ done (suc n) h inside =
