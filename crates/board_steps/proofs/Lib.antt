@@ -16,3 +16,7 @@ pub mod SummedReplies
 pub mod RecordedRuns
 pub mod RisingBoards
 pub mod KnownRanges
+pub mod RepliedAsks
+pub mod DueTickets
+mod EarlierEntries
+pub mod ShownEntries
