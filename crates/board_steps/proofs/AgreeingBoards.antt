@@ -1,5 +1,6 @@
 -- What a board knows agrees with the outcomes of its problem.
-use Rattle.std.proofs.Common.{ℕ, ◌≡◌, ◌++◌, Bool, true, false, List, [], ◌∷◌, Option, Some, All, refl, ap, ◌∙◌, subst, if◌then◌else◌}
+use Rattle.std.proofs.Common.{ℕ, ◌≡◌, ◌++◌, Bool, true, false, List, [], ◌∷◌, Option, Some, None, All, refl, ap, ◌∙◌, subst, if◌then◌else◌}
+use Rattle.std.specs.Prelude.{IsSome}
 use Rattle.std.specs.Cmp.Lexicographic.{pointwise}
 use Rattle.std.proofs.lemmas.List.Elements.{All-nil, All-push}
 use Rattle.objective.specs.Bounds.{Bounds}
@@ -41,6 +42,12 @@ pub record IsAgreeing (truth : Option (Key → Outcome)) (b : PlainBoard) : Type
   pub known : (config : List ℕ) (place : ℕ) → Agrees b.problem.rules.limits (b.known config place) (table_of truth b.problem config place)
   pub conflicts : b.conflicts ≡ 0
   pub shown : All (IsShown (table_of truth b.problem)) (runs_of b.journal)
+
+-- an answer that is what the outcome of each key shows, where the outcomes are told
+pub told-answer : (truth : Option (Key → Outcome)) (key : Key) (cutoff : ℕ) (answer : Answer) → IsSome truth
+    → ((outcome : Key → Outcome) → truth ≡ Some outcome → answer ≡ seen (outcome key) cutoff) → answer ≡ seen (told_outcome truth key) cutoff
+told-answer None key cutoff answer some told = absurd (let e : false ≡ true = some in cc)
+told-answer (Some outcome) key cutoff answer some told = told outcome refl
 
 -- what is known agrees with a table, and goes on so after a run of one cell that comes to agree
 agrees-after : (limits : Bounds) (T : Table) (before : Knowledge) (cell : Cell) (known : Known)

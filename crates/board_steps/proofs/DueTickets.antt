@@ -2,10 +2,10 @@
 use Rattle.std.proofs.Common.{ℕ, ◌≡◌, ◌≤◌, ◌<◌, ◌-◌, ◌⊎◌, ◌++◌, ◌&&◌, not, Bool, true, false, List, [], ◌∷◌, Option, Some, None, All, length, get_or, refl, ap, subst, inl, inr, arith, length-append, if◌then◌else◌}
 use Rattle.std.specs.Prelude.{IsSomeAnd}
 use Rattle.std.specs.Cmp.Lexicographic.{pointwise}
-use Rattle.std.specs.List.{flat_map}
+use Rattle.std.specs.List.{Contains, flat_map}
 use Rattle.std.specs.List.Sorted.{IsNonDecreasing}
 use Rattle.std.proofs.lemmas.List.{append_assoc, append-nil}
-use Rattle.std.proofs.lemmas.List.Elements.{All-nil, All-push, All-weaker, All-get_or}
+use Rattle.std.proofs.lemmas.List.Elements.{All-cons, All-head, All-contains, All-contains_itself, Contains-append_left, Contains-append_right, All-nil, All-push, All-weaker, All-get_or}
 use Rattle.std.proofs.lemmas.List.Sorted.{IsNonDecreasingBy-short, IsNonDecreasingBy-push}
 use Rattle.objective.specs.Bounds.{Bounds}
 use Rattle.objective.specs.Costs.{Table}
@@ -264,3 +264,36 @@ module _ (plain : Rules → Table → Run) (truth : Option (Key → Outcome)) wh
             due = due-other b.problem b.journal (take_event t) (is-due b t why ruled agreeing a) d.due;
             order = order-take (length b.replies) b.journal t (place-now b t why) d.order;
           }
+
+-- ---- a ticket that was taken
+
+-- what holds of the places of all tickets holds of those of each event
+each-event : (P : ℕ → Type 0) (journal : List Event) → All P (places_taken journal) → All (λ e. All P (place_taken e)) journal
+each-event P [] all = All-nil (λ e. All P (place_taken e))
+each-event P (e ∷ journal) all =
+    let whole = place_taken e ++ places_taken journal in
+    let here : All P (place_taken e) = All-weaker (Contains (place_taken e)) P
+    (λ place among. All-contains P whole place all (Contains-append_left (place_taken e) (places_taken journal) place among)) (place_taken e) (All-contains_itself (place_taken e)) in
+    let rest : All P (places_taken journal) = All-weaker (Contains (places_taken journal)) P
+    (λ place among. All-contains P whole place all (Contains-append_right (place_taken e) (places_taken journal) place among)) (places_taken journal) (All-contains_itself (places_taken journal)) in
+    All-cons (λ e. All P (place_taken e)) e journal here (each-event P journal rest)
+
+module _ (plain : Rules → Table → Run) (truth : Option (Key → Outcome)) where
+  -- the ask of an asked ticket that was taken: its run is due there, whatever it answers
+  pub due-taken : (b : PlainBoard) (t : Ticket) (answer : Answer) → Contains b.journal (take_event t) → t.kind ≡ Asked → AreDueTickets plain truth b
+      → IsDue b.problem.rules.limits (table_of truth b.problem) (quiet_by plain truth b.problem).asks t.place (run_of t answer)
+  due-taken b t answer among asked d =
+      let limits = b.problem.rules.limits in
+      let T = table_of truth b.problem in
+      let asks = (quiet_by plain truth b.problem).asks in
+      let taken : IsDueTake limits T asks (take_event t) = All-contains (IsDueTake limits T asks) b.journal (take_event t) d.due among in
+      let is : IsDueTake limits T asks (Take t.number Asked t.cell t.run.cutoff t.place) =
+      subst (λ kind. IsDueTake limits T asks (Take t.number kind t.cell t.run.cutoff t.place)) asked taken in
+      is answer
+
+  -- the place of a ticket that was taken isn't above the number of replies
+  pub place-taken : (b : PlainBoard) (t : Ticket) → Contains b.journal (take_event t) → AreDueTickets plain truth b → t.place ≤ length b.replies
+  place-taken b t among d =
+      let P : ℕ → Type 0 = λ place. place ≤ length b.replies in
+      let each : All P (t.place ∷ []) = All-contains (λ e. All P (place_taken e)) b.journal (take_event t) (each-event P b.journal d.order.within) among in
+      All-head P t.place [] each

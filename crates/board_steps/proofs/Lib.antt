@@ -20,3 +20,4 @@ pub mod RepliedAsks
 pub mod DueTickets
 mod EarlierEntries
 pub mod ShownEntries
+pub mod TruthfulBoards

@@ -168,6 +168,29 @@ module _ (plain : Rules → Table → Run) (truth : Option (Key → Outcome)) (s
         first-shown b.problem.rules (shown b.problem.rules) (quiet_sums truth b.problem) (quiet_by plain truth b.problem)
         (quiet-follows plain truth shown follows b.problem ruled) (steady b.problem.rules ruled) b.replies a.traced
 
+    -- all that are shown are those before the present ask
+    entries-now : (b : PlainBoard) → AreRules b.problem.rules → AreReplied plain truth b
+        → (shown b.problem.rules b.replies).entries ≡ entries_before (quiet_by plain truth b.problem) (length b.replies)
+    entries-now b ruled a =
+        ap (λ rs. (shown b.problem.rules rs).entries) a.traced.same
+        ∙ (quiet-follows plain truth shown follows b.problem ruled).entries (length b.replies) a.traced.within
+
+    -- the entries that the procedure adds before an ask that was met are the first ones that are shown
+    pub earlier-entries-shown : (b : PlainBoard) (place : ℕ) → place ≤ length b.replies → AreRules b.problem.rules → AreReplied plain truth b
+        → Grows (entries_before (quiet_by plain truth b.problem) place) (shown b.problem.rules b.replies).entries
+    earlier-entries-shown b place low ruled a =
+        let sums = quiet_sums truth b.problem in
+        let whole : Run = quiet_by plain truth b.problem in
+        let h = quiet-follows plain truth shown follows b.problem ruled in
+        let t = a.traced in
+        let within : place ≤ answer_count whole = omega (arith, low, t.within) in
+        let on_the_way = first-shown b.problem.rules (shown b.problem.rules) sums whole h (steady b.problem.rules ruled) (replies_to sums whole place) (replies-traced sums whole place within) in
+        let former : Grows (entries_before whole place) (entries_of whole) = subst (λ es. Grows es (entries_of whole)) (h.entries place within) on_the_way in
+        let later = first-entries-shown b ruled a in
+        let fewer = fewer_before whole place (length b.replies) low in
+        shorter_first (entries_before whole place) (shown b.problem.rules b.replies).entries former.added later.added (sym former.grown ∙ later.grown)
+        (omega (arith, fewer, ap length (entries-now b ruled a)))
+
     -- the entries of the procedure are the first ones of it where each abort counts as unsolved
     true-first : (problem : Problem) → AreRules problem.rules → Grows (entries_of (true_by plain truth problem)) (entries_of (quiet_by plain truth problem))
     true-first problem ruled =
@@ -213,15 +236,8 @@ module _ (plain : Rules → Table → Run) (truth : Option (Key → Outcome)) (s
           let none : Agrees b.problem.rules.limits Abort (T cell.config cell.place) =
           subst (λ k. Agrees b.problem.rules.limits k (T cell.config cell.place)) known (agreeing.known cell.config cell.place) in
           let cut = cut-here b (unknown-ask b.problem.rules T cell (ask_on shown b) same first within none) ruled a in
-          let former = true-first b.problem ruled in
-          let later = first-entries-shown b ruled a in
-          let here : view.entries ≡ entries_before whole (length b.replies) =
-          ap (λ rs. (shown b.problem.rules rs).entries) a.traced.same
-          ∙ (quiet-follows plain truth shown follows b.problem ruled).entries (length b.replies) a.traced.within in
-          let count = fewer_before whole cut.cut (length b.replies) cut.low in
-          let fewer : length (entries_of run) ≤ length view.entries = omega (arith, count, ap length cut.entries, ap length here) in
           record {
             aborted = cut.ended;
-            first = shorter_first (entries_of run) view.entries former.added later.added (sym former.grown ∙ later.grown) fewer;
-            shown = later;
+            first = subst (λ es. Grows es view.entries) (sym cut.entries) (earlier-entries-shown b cut.cut cut.low ruled a);
+            shown = first-entries-shown b ruled a;
           }
