@@ -136,9 +136,9 @@ module _ (limits : Bounds) (known : Knowledge) (T : Table) (agrees : (config : L
   pub due-ask : (ask : Ask) (place : ℕ) (cutoff : Micros) (answer : Answer) → verdict_of limits known ask ≡ verdict.Need place cutoff
       → IsSomeAnd (question_of ask) (IsDueFor limits T (record { cell = record { config = config_of ask; place = place }; cutoff = cutoff.0; answer = answer }))
   due-ask (Full θ n) place cutoff answer is =
-      needed-due θ n None place cutoff answer (ended-walk limits known T agrees θ None n (verdict.Need place cutoff) is)
+      needed-due θ n None place cutoff answer (ended-walk limits known θ None n (verdict.Need place cutoff) is)
   due-ask (Versus θ n bound) place cutoff answer is =
-      needed-due θ n (Some bound.0) place cutoff answer (ended-walk limits known T agrees θ (Some bound.0) n (verdict.Need place cutoff) is)
+      needed-due θ n (Some bound.0) place cutoff answer (ended-walk limits known θ (Some bound.0) n (verdict.Need place cutoff) is)
   due-ask End place cutoff answer is = absurd (cc)
 
 module _ (plain : Rules → Table → Run) (truth : Option (Key → Outcome)) where

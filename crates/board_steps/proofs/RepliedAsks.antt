@@ -51,17 +51,17 @@ pub record AreReplied (plain : Rules → Table → Run) (truth : Option (Key →
 
 -- ---- what a verdict replies
 
-module _ (limits : Bounds) (known : Knowledge) (T : Table) (agrees : (config : List ℕ) (place : ℕ) → Agrees limits (known config place) (T config place)) where
-  -- how the walk of a question ends that comes to a verdict
-  pub ended-walk : (θ : List ℕ) (bound : Option ℕ) (n : ℕ) (v : Verdict) → verdict_from limits (known θ) bound n 1 0 ≡ v
-      → IsEnd limits (known θ) bound n v
-  ended-walk θ bound n v is = subst (IsEnd limits (known θ) bound n) is (walk_end limits (known θ) bound n n 0 0 (omega arith) refl)
+-- how the walk of a question ends that comes to a verdict
+pub ended-walk : (limits : Bounds) (known : Knowledge) (θ : List ℕ) (bound : Option ℕ) (n : ℕ) (v : Verdict) → verdict_from limits (known θ) bound n 1 0 ≡ v
+    → IsEnd limits (known θ) bound n v
+ended-walk limits known θ bound n v is = subst (IsEnd limits (known θ) bound n) is (walk_end limits (known θ) bound n n 0 0 (omega arith) refl)
 
+module _ (limits : Bounds) (known : Knowledge) (T : Table) (agrees : (config : List ℕ) (place : ℕ) → Agrees limits (known config place) (T config place)) where
   -- a reply is that of the total cost that is asked for
   pub replied-ask : (ask : Ask) (r : Reply) → verdict_of limits known ask ≡ verdict.Reply r
       → IsSomeAnd (question_of ask) (IsReplyBy (total_cost limits (quiet T)) r)
-  replied-ask (Full θ n) r is = replied limits T θ (known θ) (agrees θ) n None r (ended-walk θ None n (verdict.Reply r) is)
-  replied-ask (Versus θ n bound) r is = replied limits T θ (known θ) (agrees θ) n (Some bound.0) r (ended-walk θ (Some bound.0) n (verdict.Reply r) is)
+  replied-ask (Full θ n) r is = replied limits T θ (known θ) (agrees θ) n None r (ended-walk limits known θ None n (verdict.Reply r) is)
+  replied-ask (Versus θ n bound) r is = replied limits T θ (known θ) (agrees θ) n (Some bound.0) r (ended-walk limits known θ (Some bound.0) n (verdict.Reply r) is)
   replied-ask End r is = absurd (cc)
 
 module _ (plain : Rules → Table → Run) (truth : Option (Key → Outcome)) where
