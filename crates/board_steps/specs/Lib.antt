@@ -8,3 +8,4 @@ pub mod Steps
 pub mod Replays
 pub mod Numbering
 pub mod BoardInvariant
+pub mod KeptKnowledge

@@ -9,6 +9,7 @@ use crate::answers::Standing;
 use crate::events::Event;
 use crate::tickets::{Kind, LiveTicket, Ticket, same_cell};
 use objective::{Memory, Micros};
+use param_space::Config;
 use predictor::Wish;
 use run_cache::Cell;
 use std::alloc::Global;
@@ -62,15 +63,28 @@ fn is_wished(wishes: &[Wish], cell: &Cell) -> bool
     wishes.iter().any(|w| same_cell(cell, &w.cell))
 }
 
+/// Whether a cell is of this configuration at this place.
+fn is_cell(config: &Config, place: u32, cell: &Cell) -> bool
+    ensures { result ≡ Tickets.same_cell (record { config = config.now; place = place }) cell.now }
+{
+    config.values() == cell.config.values() && place == cell.place
+}
+
 /// Whether the run of a live ticket isn't wanted where a cell is needed under a cutoff.
 #[tactic(auto, unfolding(crate::specs::Tickets::is_unwanted_beside))]
-fn is_unwanted_beside(l: &LiveTicket, wishes: &[Wish], needed: &Cell, cutoff: Micros) -> bool
-    ensures { result ≡ Tickets.is_unwanted_beside wishes.now needed.now cutoff.0 l.now }
+fn is_unwanted_beside(
+    l: &LiveTicket,
+    wishes: &[Wish],
+    config: &Config,
+    place: u32,
+    cutoff: Micros,
+) -> bool
+    ensures { result ≡ Tickets.is_unwanted_beside wishes.now (record { config = config.now; place = place }) cutoff.0 l.now }
 {
     if l.ticket.kind != Kind::Ahead {
         return false;
     }
-    if same_cell(needed, &l.ticket.cell) {
+    if is_cell(config, place, &l.ticket.cell) {
         return cutoff.0 < l.ticket.run.cutoff.0;
     }
     !is_wished(wishes, &l.ticket.cell)
@@ -145,16 +159,17 @@ fn mark_unwanted(
     l: &mut LiveTicket,
     journal: &mut Vec<Event>,
     wishes: &[Wish],
-    needed: &Cell,
+    config: &Config,
+    place: u32,
     cutoff: Micros,
 )
     requires { length journal.old.items + places_of l.old ≤ vec_capacity journal.old }
-    ensures marked { l.new ≡ Tickets.marked_if (Tickets.is_unwanted_beside wishes.now needed.now cutoff.0) l.old }
-    ensures journal { journal.new.items ≡ journal.old.items ++ Tickets.mark_event (Tickets.is_unwanted_beside wishes.now needed.now cutoff.0) l.old }
+    ensures marked { l.new ≡ Tickets.marked_if (Tickets.is_unwanted_beside wishes.now (record { config = config.now; place = place }) cutoff.0) l.old }
+    ensures journal { journal.new.items ≡ journal.old.items ++ Tickets.mark_event (Tickets.is_unwanted_beside wishes.now (record { config = config.now; place = place }) cutoff.0) l.old }
     ensures places { length journal.new.items + places_of l.new ≤ length journal.old.items + places_of l.old }
     ensures capacity { vec_capacity journal.new ≡ vec_capacity journal.old }
 {
-    if is_unwanted_beside(l, wishes, needed, cutoff) {
+    if is_unwanted_beside(l, wishes, config, place, cutoff) {
         mark(l, journal);
     }
 }
@@ -164,17 +179,18 @@ fn mark_each_unwanted(
     live: &mut Vec<LiveTicket>,
     journal: &mut Vec<Event>,
     wishes: &[Wish],
-    needed: &Cell,
+    config: &Config,
+    place: u32,
     cutoff: Micros,
 )
     requires { length journal.old.items + sum_by places_of live.old.items ≤ vec_capacity journal.old }
-    ensures marked { live.new.items ≡ map (Tickets.marked_if (Tickets.is_unwanted_beside wishes.now needed.now cutoff.0)) live.old.items }
-    ensures journal { journal.new.items ≡ journal.old.items ++ Tickets.mark_events (Tickets.is_unwanted_beside wishes.now needed.now cutoff.0) live.old.items }
+    ensures marked { live.new.items ≡ map (Tickets.marked_if (Tickets.is_unwanted_beside wishes.now (record { config = config.now; place = place }) cutoff.0)) live.old.items }
+    ensures journal { journal.new.items ≡ journal.old.items ++ Tickets.mark_events (Tickets.is_unwanted_beside wishes.now (record { config = config.now; place = place }) cutoff.0) live.old.items }
     ensures places { length journal.new.items + sum_by places_of live.new.items ≤ length journal.old.items + sum_by places_of live.old.items }
     ensures capacity { vec_capacity journal.new ≡ vec_capacity journal.old }
 {
     for i in 0..live.len() {
-        mark_unwanted(&mut live[i], journal, wishes, needed, cutoff);
+        mark_unwanted(&mut live[i], journal, wishes, config, place, cutoff);
     }
 }
 
@@ -364,12 +380,25 @@ impl Ledger {
     /// Marks the live tickets that aren't wanted where a cell is needed under a cutoff, and
     /// tells how many newly. Takes no memory.
     #[tactic(auto, unfolding(crate::specs::Ledgers::places_kept))]
-    pub fn mark_beside(&mut self, wishes: &[Wish], needed: &Cell, cutoff: Micros) -> usize
-        ensures count { result ≡ length (Tickets.mark_events (Tickets.is_unwanted_beside wishes.now needed.now cutoff.0) self.old.live) }
-        ensures marked { self.new ≡ record self.old { live = map (Tickets.marked_if (Tickets.is_unwanted_beside wishes.now needed.now cutoff.0)) self.old.live; journal = self.old.journal ++ Tickets.mark_events (Tickets.is_unwanted_beside wishes.now needed.now cutoff.0) self.old.live; spare = self.new.spare } }
+    pub fn mark_beside(
+        &mut self,
+        wishes: &[Wish],
+        config: &Config,
+        place: u32,
+        cutoff: Micros,
+    ) -> usize
+        ensures count { result ≡ length (Tickets.mark_events (Tickets.is_unwanted_beside wishes.now (record { config = config.now; place = place }) cutoff.0) self.old.live) }
+        ensures marked { self.new ≡ record self.old { live = map (Tickets.marked_if (Tickets.is_unwanted_beside wishes.now (record { config = config.now; place = place }) cutoff.0)) self.old.live; journal = self.old.journal ++ Tickets.mark_events (Tickets.is_unwanted_beside wishes.now (record { config = config.now; place = place }) cutoff.0) self.old.live; spare = self.new.spare } }
     {
         let before = self.journal.len();
-        mark_each_unwanted(&mut self.live, &mut self.journal, wishes, needed, cutoff);
+        mark_each_unwanted(
+            &mut self.live,
+            &mut self.journal,
+            wishes,
+            config,
+            place,
+            cutoff,
+        );
         self.journal.len() - before
     }
 

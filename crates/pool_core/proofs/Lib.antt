@@ -1,0 +1,6 @@
+mod TicketEnds
+mod Halts
+mod PresentPhases
+mod NoWishes
+mod Offers
+mod MarkedBoards

@@ -1,0 +1,93 @@
+-- What marking makes of a board.
+use Rattle.std.proofs.Common.{ℕ, ◌≡◌, ◌++◌, Bool, true, false, List, [], ◌∷◌, Option, Some, None, length, map, refl, sym, ap, ◌∙◌, if◌then◌else◌}
+use Rattle.std.proofs.lemmas.List.{append-nil}
+use Rattle.objective.specs.declared.Micros.{Micros}
+use Rattle.ils_face.specs.declared.asks.Ask.TheVariants.{End}
+use Rattle.ils_face.specs.declared.asks.Reply.{Reply}
+use Rattle.ils_face.specs.Rules.{Rules}
+use Rattle.ils_face.specs.Views.{View}
+use Rattle.run_cache.specs.declared.cell.Cell.{Cell}
+use Rattle.run_cache.specs.Caches.{known_in}
+use Rattle.capping.specs.declared.verdicts.Verdict.{Verdict}
+use Rattle.capping.specs.declared.verdicts.Verdict.TheVariants as verdict
+use Rattle.capping.specs.Verdicts.{verdict_of}
+use Rattle.board_steps.specs.declared.answers.Phase.{Phase}
+use Rattle.board_steps.specs.declared.answers.Phase.TheVariants as phase
+use Rattle.board_steps.specs.declared.tickets.LiveTicket.{LiveTicket}
+use Rattle.board_steps.specs.Boards.{BoardState, PlainBoard, plain}
+use Rattle.board_steps.specs.Phases.{asked_cell, config_of, phase_by, phase_of, verdict_on}
+use Rattle.board_steps.specs.Steps.{after_mark, is_unwanted, is_unwanted_by, marked_board, marked_on}
+use Rattle.board_steps.specs.Tickets.{marked_if, mark_events, is_unwanted_beside}
+
+-- nothing is unwanted
+abbrev pub none_unwanted : LiveTicket → Bool
+none_unwanted l = false
+
+-- nothing is marked
+none-marked : (live : List LiveTicket) → map (marked_if none_unwanted) live ≡ live
+none-marked [] = refl
+none-marked (l ∷ live) = ap (λ xs. l ∷ xs) (none-marked live)
+
+-- and there is no event
+no-events : (live : List LiveTicket) → mark_events none_unwanted live ≡ []
+no-events [] = refl
+no-events (l ∷ live) = no-events live
+
+-- open boards that are the same have the same verdict
+same_open : (v w : Verdict) → phase.Open v ≡ phase.Open w → v ≡ w
+same_open v w opened = cc
+
+module _ (shown : Rules → List Reply → View) where
+  -- what isn't wanted where the board stands so
+  pub unwanted-as : (b : PlainBoard) (p : Phase) → p ≡ phase_of shown b → is_unwanted_by shown b p ≡ is_unwanted shown b
+  unfolding is_unwanted
+  unwanted-as b p is = ap (is_unwanted_by shown b) is
+
+  -- a board after marking what isn't wanted
+  pub marked-as : (b : PlainBoard) (f : LiveTicket → Bool) → f ≡ is_unwanted shown b → marked_board b f ≡ after_mark shown b
+  unfolding after_mark
+  marked-as b f is = ap (marked_board b) is
+
+  -- how many are newly marked
+  pub count-as : (b : BoardState) (f : LiveTicket → Bool) → f ≡ is_unwanted shown (plain b) → length (mark_events f b.live) ≡ marked_on shown (plain b)
+  unfolding marked_on plain
+  count-as b f is = ap (λ u. length (mark_events u b.live)) is
+
+  -- nothing is marked
+  pub marked-none : (b : PlainBoard) → none_unwanted ≡ is_unwanted shown b → b ≡ after_mark shown b
+  marked-none b is = (λ i. record b { live = sym (none-marked b.live) i; journal = (sym (append-nil b.journal) ∙ ap (λ es. b.journal ++ es) (sym (no-events b.live))) i }) ∙ marked-as b none_unwanted is
+
+  -- none is newly marked
+  pub count-none : (b : BoardState) → none_unwanted ≡ is_unwanted shown (plain b) → 0 ≡ marked_on shown (plain b)
+  count-none b is = sym (ap length (no-events b.live)) ∙ count-as b none_unwanted is
+
+  -- an open board has this verdict
+  pub verdict-open : (b : BoardState) (v : Verdict) → phase_of shown (plain b) ≡ phase.Open v → verdict_on shown (plain b) ≡ v
+  unfolding phase_of plain
+  verdict-open b v stands = by_stop b.stopped stands
+    where
+      by_abort : (o : Option Cell) → phase_by shown (plain b) o ≡ phase.Open v → verdict_on shown (plain b) ≡ v
+      by_abort (Some cell) opened = absurd (let e : phase.Aborted ≡ phase.Open v = opened in cc)
+      by_abort None opened = same_open (verdict_on shown (plain b)) v opened
+
+      by_stop : (s : Bool) → (if s then phase.Stopped else phase_by shown (plain b) b.aborted) ≡ phase.Open v → verdict_on shown (plain b) ≡ v
+      by_stop true opened = absurd (let e : phase.Stopped ≡ phase.Open v = opened in cc)
+      by_stop false opened = by_abort b.aborted opened
+
+  -- at its end a search needs no run
+  pub no-end : (b : BoardState) (rules : Rules) (place : ℕ) (cutoff : Micros) → rules ≡ b.problem.rules → phase_of shown (plain b) ≡ phase.Open (verdict.Need place cutoff)
+      → (shown rules b.replies).ask ≡ End → ⊥
+  unfolding verdict_on plain
+  no-end b rules place cutoff same stands at_end =
+      let now : (shown b.problem.rules b.replies).ask ≡ End = ap (λ r. (shown r b.replies).ask) (sym same) ∙ at_end in
+      let e : verdict.Ended ≡ verdict.Need place cutoff = sym (ap (verdict_of b.problem.rules.limits (known_in b.cache)) now) ∙ verdict-open b (verdict.Need place cutoff) stands in
+      absurd (let f = e in cc)
+
+  -- what isn't wanted where a run of the present ask is needed
+  pub unwanted-beside : (b : BoardState) (rules : Rules) (config : List ℕ) (place : ℕ) (cutoff : Micros) → rules ≡ b.problem.rules
+      → phase_of shown (plain b) ≡ phase.Open (verdict.Need place cutoff) → config_of (shown rules b.replies).ask ≡ config
+      → is_unwanted_beside b.wishes (record { config = config; place = place }) cutoff.0 ≡ is_unwanted shown (plain b)
+  unfolding plain is_unwanted asked_cell
+  unwanted-beside b rules config place cutoff same stands asked =
+      (λ i. is_unwanted_beside b.wishes (record { config = (sym asked ∙ ap (λ r. config_of (shown r b.replies).ask) same) i; place = place }) cutoff.0)
+      ∙ ap (is_unwanted_by shown (plain b)) (sym stands)

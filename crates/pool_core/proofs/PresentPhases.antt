@@ -1,0 +1,119 @@
+-- Where a board stands, by what it holds.
+use Rattle.std.proofs.Common.{ℕ, ◌≡◌, ◌-◌, ◌++◌, true, false, List, [], ◌∷◌, Option, Some, None, All, is_some, refl, sym, ap, ◌∙◌, subst, if◌then◌else◌}
+use Rattle.std.specs.Cmp.Lexicographic.{pointwise}
+use Rattle.ils_face.specs.declared.asks.Reply.{Reply}
+use Rattle.ils_face.specs.Replies.{Fits}
+use Rattle.ils_face.specs.Rules.{Rules}
+use Rattle.ils_face.specs.Views.{View}
+use Rattle.run_cache.specs.declared.cell.Cell.{Cell}
+use Rattle.run_cache.specs.Caches.{known_in}
+use Rattle.capping.specs.declared.verdicts.Verdict.{Verdict}
+use Rattle.capping.specs.Verdicts.{verdict_of}
+use Rattle.predictor.specs.declared.wish.Wish.{Wish}
+use Rattle.predictor.specs.Wishes.{wishes_of}
+use Rattle.board_steps.specs.declared.answers.Phase.TheVariants.{Stopped, Aborted, Open}
+use Rattle.board_steps.specs.Boards.{BoardState, PlainBoard, plain}
+use Rattle.board_steps.specs.Numbering.{IsRunnable}
+use Rattle.board_steps.specs.declared.events.Event.TheVariants.{Advance}
+use Rattle.board_steps.specs.declared.answers.Phase.{Phase}
+use Rattle.board_steps.specs.declared.answers.Taken.{Taken}
+use Rattle.board_steps.specs.Steps.{same_wish, with_wishes, advanced_to, advanced_on, advanced_by, after_advance, taken_by, taken_on, with_taken, after_take}
+use Rattle.board_steps.specs.Phases.{ask_on, config_of, asked_cell, verdict_on, phase_by, phase_of, wishes_on, IfReplies, IfNeeds}
+
+module _ (shown : Rules → List Reply → View) where
+  -- it is stopped
+  pub phase-stopped : (b : BoardState) → b.stopped ≡ true → Stopped ≡ phase_of shown (plain b)
+  unfolding phase_of plain
+  phase-stopped b stopped = sym (ap (λ s. if s then Stopped else phase_by shown (plain b) b.aborted) stopped)
+
+  -- a cell is set as aborted
+  aborted-by : (b : PlainBoard) (o : Option Cell) → is_some o ≡ true → Aborted ≡ phase_by shown b o
+  aborted-by b (Some cell) some = refl
+  aborted-by b None some = absurd (let e : false ≡ true = some in cc)
+
+  -- it has an aborted cell
+  pub phase-aborted : (b : BoardState) → b.stopped ≡ false → is_some b.aborted ≡ true → Aborted ≡ phase_of shown (plain b)
+  unfolding phase_of plain
+  phase-aborted b running some = aborted-by (plain b) b.aborted some ∙ sym (ap (λ s. if s then Stopped else phase_by shown (plain b) b.aborted) running)
+
+  -- no cell is set as aborted
+  open-by : (b : PlainBoard) (o : Option Cell) → is_some o ≡ false → Open (verdict_on shown b) ≡ phase_by shown b o
+  open-by b (Some cell) none = absurd (let e : true ≡ false = none in cc)
+  open-by b None none = refl
+
+  -- it goes by what is known
+  pub phase-open : (b : BoardState) (rules : Rules) (v : Verdict) → rules ≡ b.problem.rules → b.cache.limits ≡ b.problem.rules.limits
+      → b.stopped ≡ false → is_some b.aborted ≡ false → v ≡ verdict_of b.cache.limits (known_in b.cache) (shown rules b.replies).ask
+      → Open v ≡ phase_of shown (plain b)
+  unfolding phase_of plain verdict_on
+  phase-open b rules v same limits running none decided =
+      let verdict : v ≡ verdict_on shown (plain b) = decided ∙ (λ i. verdict_of (limits i) (known_in b.cache) (shown (same i) b.replies).ask) in
+      ap Open verdict ∙ open-by (plain b) b.aborted none ∙ sym (ap (λ s. if s then Stopped else phase_by shown (plain b) b.aborted) running)
+
+  -- a reply to the present ask
+  pub fits-now : (b : BoardState) (rules : Rules) (r : Reply) → rules ≡ b.problem.rules → Fits (ask_on shown (plain b)) r → Fits (shown rules b.replies).ask r
+  unfolding plain
+  fits-now b rules r same fits = let P : Rules → Type 0 = λ x. Fits (shown x b.replies).ask r in subst P (sym same) fits
+
+  -- what fits the ask by these rules fits the present ask
+  pub replies-fit : (b : BoardState) (rules : Rules) (v : Verdict) → rules ≡ b.problem.rules → IfReplies v (Fits (shown rules b.replies).ask) → IfReplies v (Fits (ask_on shown (plain b)))
+  unfolding plain
+  replies-fit b rules v same fits = let P : Rules → Type 0 = λ x. IfReplies v (Fits (shown x b.replies).ask) in subst P same fits
+
+  -- what may be run by these rules may be run
+  pub needs-runnable : (b : BoardState) (rules : Rules) (v : Verdict) → rules ≡ b.problem.rules
+      → IfNeeds v (λ place cutoff. IsRunnable rules (record { config = config_of (shown rules b.replies).ask; place = place }) cutoff)
+      → IfNeeds v (λ place cutoff. IsRunnable b.problem.rules (asked_cell shown (plain b) place) cutoff)
+  unfolding plain asked_cell
+  needs-runnable b rules v same runnable =
+      let P : Rules → Type 0 = λ x. IfNeeds v (λ place cutoff. IsRunnable x (record { config = config_of (shown x b.replies).ask; place = place }) cutoff) in subst P same runnable
+
+  -- the cell of the present ask at a place
+  pub asked-now : (b : BoardState) (rules : Rules) (cell : Cell) (place : ℕ) → rules ≡ b.problem.rules
+      → cell ≡ record { config = config_of (shown rules b.replies).ask; place = place } → cell ≡ asked_cell shown (plain b) place
+  unfolding plain asked_cell
+  asked-now b rules cell place same is = is ∙ (λ i. record { config = config_of (shown (same i) b.replies).ask; place = place })
+
+  -- the wishes of the present ask
+  pub wished-now : (b : BoardState) (rules : Rules) (replies : List Reply) (wishes : List Wish) (k : ℕ) → rules ≡ b.problem.rules → b.cache.limits ≡ b.problem.rules.limits
+      → k ≡ b.problem.rules.workers - 1 → wishes ≡ wishes_of (shown rules) b.cache.limits (known_in b.cache) replies k
+      → wishes ≡ wishes_on shown (record (plain b) { replies = replies })
+  unfolding plain wishes_on
+  wished-now b rules replies wishes k same limits others made = made ∙ (λ i. wishes_of (shown (same i)) (limits i) (known_in b.cache) replies (others i))
+
+  -- the wishes of the present ask, whose replies stay
+  pub wished-same : (b : BoardState) (rules : Rules) (wishes : List Wish) (k : ℕ) → rules ≡ b.problem.rules → b.cache.limits ≡ b.problem.rules.limits
+      → k ≡ b.problem.rules.workers - 1 → wishes ≡ wishes_of (shown rules) b.cache.limits (known_in b.cache) b.replies k → wishes ≡ wishes_on shown (plain b)
+  unfolding plain wishes_on
+  wished-same b rules wishes k same limits others made = made ∙ (λ i. wishes_of (shown (same i)) (limits i) (known_in b.cache) b.replies (others i))
+
+  -- the wishes stay where they are the same
+  pub wishes-stay : (b : BoardState) (wishes : List Wish) → wishes ≡ wishes_on shown (plain b) → pointwise same_wish b.wishes wishes ≡ true → plain b ≡ with_wishes shown (plain b)
+  unfolding plain with_wishes
+  wishes-stay b wishes wished same =
+      let test = ap (pointwise same_wish b.wishes) (sym wished) ∙ same in
+      sym (ap (λ t. if t then plain b else record (plain b) { wishes = wishes_on shown (plain b); journal = b.journal ++ Advance ∷ [] }) test)
+
+  -- what an advance comes to where the board stands so
+  pub advanced-as : (b : PlainBoard) (p : Phase) → p ≡ phase_of shown b → advanced_to p ≡ advanced_on shown b
+  unfolding advanced_on
+  advanced-as b p is = ap advanced_to is
+
+  -- a board after an advance from where it stands so
+  pub after-as : (b : PlainBoard) (p : Phase) → p ≡ phase_of shown b → advanced_by shown b p ≡ after_advance shown b
+  unfolding after_advance
+  after-as b p is = ap (advanced_by shown b) is
+
+  -- what a take comes to where the board stands so
+  pub taken-as : (b : PlainBoard) (p : Phase) → p ≡ phase_of shown b → taken_by shown b p ≡ taken_on shown b
+  unfolding taken_on
+  taken-as b p is = ap (taken_by shown b) is
+
+  -- a board after a take that comes to this
+  pub after-taken : (b : PlainBoard) (t : Taken) → t ≡ taken_on shown b → with_taken b t ≡ after_take shown b
+  unfolding after_take
+  after-taken b t is = ap (with_taken b) is
+
+-- wishes may be run
+pub wishes-runnable : (rules others : Rules) (wishes : List Wish) → rules ≡ others → All (λ w. IsRunnable rules w.cell w.cutoff.0) wishes → All (λ w. IsRunnable others w.cell w.cutoff.0) wishes
+wishes-runnable rules others wishes same runnable = let P : Rules → Type 0 = λ x. All (λ w. IsRunnable x w.cell w.cutoff.0) wishes in subst P same runnable

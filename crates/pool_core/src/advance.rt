@@ -1,0 +1,92 @@
+//! The step that follows the search.
+ghost use Rattle.std.specs.Prelude.{◌≡◌, ◌-◌, IfOk, OnOk, OnErr};
+ghost use Rattle.ils_face.specs.Replies.{Fits};
+ghost use Rattle.board_steps.specs.Boards.{plain};
+ghost use Rattle.board_steps.specs.Phases.{ask_on, phase_of};
+ghost use Rattle.board_steps.specs.Steps.{advanced_on, after_advance, with_reply, with_wishes, with_abort};
+
+use crate::board::Board;
+use crate::present_asks::{asked_cell, same_wishes, wishes_after, wishes_now};
+use board_steps::{Advanced, Phase, Problem};
+use capping::Verdict;
+use ils_face::{Reply, Search};
+use objective::{Memory, Micros};
+use outside::Spawner;
+
+/// The seats beside the first.
+fn others(problem: &Problem) -> u32
+    ensures { result ≡ problem.now.rules.workers - 1 }
+{
+    problem.rules.workers - 1
+}
+
+impl<P: Search, S: Spawner> Board<P, S> {
+    /// Goes on by what is known: the search is answered where that gives a reply, and the
+    /// wishes are made anew. After want of memory the board is as it was.
+    pub fn advance(&mut self) -> Result<Advanced, Memory>
+        ensures answer { IfOk result (λ a. a ≡ advanced_on P.shown (plain self.old)) }
+        ensures board { OnOk result (plain self.new ≡ after_advance P.shown (plain self.old)) }
+        ensures err { OnErr result (self.new ≡ self.old) }
+    {
+        match self.phase() {
+            Phase::Stopped => Ok(Advanced::Stopped),
+            Phase::Aborted => Ok(Advanced::Aborted),
+            Phase::Open(Verdict::Ended) => Ok(Advanced::Ended),
+            Phase::Open(Verdict::Reply(reply)) => self.answer(reply),
+            Phase::Open(Verdict::Need { place, cutoff }) => self.wish(place, cutoff),
+            Phase::Open(Verdict::Aborted { place }) => self.abort(place),
+        }
+    }
+
+    /// Answers the search. The wishes are made first, on a copy.
+    fn answer(&mut self, reply: Reply) -> Result<Advanced, Memory>
+        requires stands { phase_of P.shown (plain self.old) ≡ Phase.Open (Verdict.Reply reply) }
+        requires fits { Fits (ask_on P.shown (plain self.old)) reply }
+        ensures answer { IfOk result (λ a. a ≡ Advanced.Moved) }
+        ensures board { OnOk result (plain self.new ≡ with_reply P.shown (plain self.old) reply) }
+        ensures err { OnErr result (self.new ≡ self.old) }
+    {
+        let alloc = *self.wishes.allocator();
+        let others = others(&self.problem);
+        let wishes = wishes_after(alloc, &self.search, &self.cache, reply, others)?;
+        self.ledger.make_room()?;
+        self.search.answer(reply)?;
+        self.wishes = wishes;
+        self.ledger.advance();
+        Ok(Advanced::Moved)
+    }
+
+    /// Makes the wishes anew where a run is needed.
+    fn wish(&mut self, place: u32, cutoff: Micros) -> Result<Advanced, Memory>
+        requires { phase_of P.shown (plain self.old) ≡ Phase.Open (Verdict.Need place cutoff) }
+        ensures answer { IfOk result (λ a. a ≡ Advanced.Waits) }
+        ensures board { OnOk result (plain self.new ≡ with_wishes P.shown (plain self.old)) }
+        ensures err { OnErr result (self.new ≡ self.old) }
+    {
+        let alloc = *self.wishes.allocator();
+        let others = others(&self.problem);
+        let wishes = wishes_now(alloc, &self.search, &self.cache, others)?;
+        if same_wishes(&self.wishes, &wishes) {
+            return Ok(Advanced::Waits);
+        }
+        self.ledger.make_room()?;
+        self.wishes = wishes;
+        self.ledger.advance();
+        Ok(Advanced::Waits)
+    }
+
+    /// Ends the search at a run that asked for it.
+    fn abort(&mut self, place: u32) -> Result<Advanced, Memory>
+        requires { phase_of P.shown (plain self.old) ≡ Phase.Open (Verdict.Aborted place) }
+        ensures answer { IfOk result (λ a. a ≡ Advanced.Aborted) }
+        ensures board { OnOk result (plain self.new ≡ with_abort P.shown (plain self.old) place) }
+        ensures err { OnErr result (self.new ≡ self.old) }
+    {
+        let cell = asked_cell(*self.wishes.allocator(), &self.search, place)?;
+        self.ledger.make_room()?;
+        self.aborted = Some(cell);
+        self.wishes.clear();
+        self.ledger.advance();
+        Ok(Advanced::Aborted)
+    }
+}

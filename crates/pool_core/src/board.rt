@@ -1,0 +1,170 @@
+//! The board.
+ghost use Rattle.std.specs.Prelude.{◌≡◌, [], IfOk, length};
+ghost use Rattle.run_cache.specs.Caches.{known_in};
+ghost use Rattle.board_steps.specs.Boards.{opening, plain};
+ghost use Rattle.board_steps.specs.BoardInvariant.{BoardInvariant};
+ghost use Rattle.board_steps.specs.Phases.{phase_of, ask_on, asked_cell as cell_on, IfOpen, IfReplies, IfNeeds};
+ghost use Rattle.board_steps.specs.Numbering.{IsRunnable};
+ghost use Rattle.ils_face.specs.Replies.{Fits};
+ghost use Rattle.board_steps.specs.Tickets.{found_in, standing_of};
+ghost use Rattle.pool_core.specs.Endings.{IsEnding};
+
+use crate::present_asks::verdict_by;
+use board_steps::{Event, Ledger, Phase, Problem, Standing, Ticket};
+use ils_face::{Ask, Search};
+use objective::Memory;
+use outside::Spawner;
+use predictor::Wish;
+use run_cache::{Cache, Cell};
+use std::alloc::Global;
+use std::marker::{Model, PhantomData};
+
+/// Whether a search is at its end.
+pub enum Ending<'a> {
+    /// It isn't.
+    Running,
+    /// It is.
+    Finished,
+    /// It ended at this cell, whose run asked for the end.
+    Aborted(&'a Cell),
+}
+
+/// A search with what is known of runs, the tickets that seats run by, and a journal.
+///
+/// Contracts see it as what it holds; its type keeps what `is_board` tells. The spawners' type serves its
+/// truth alone.
+#[derive(Drop)]
+pub struct Board<P: Search, S: Spawner> {
+    pub(crate) problem: Problem,
+    pub(crate) search: P,
+    pub(crate) cache: Cache,
+    pub(crate) wishes: Vec<Wish>,
+    pub(crate) aborted: Option<Cell>,
+    pub(crate) ledger: Ledger,
+    pub(crate) of: PhantomData<S>,
+}
+
+impl<P: Search, S: Spawner> Model for Board<P, S> {
+    ghost use Rattle.board_steps.specs.Boards.{BoardState, state_of};
+    ghost use Rattle.board_steps.specs.BoardInvariant.{IsBoard};
+
+    ghost Value = { BoardState };
+
+    ghost view = { λ b. state_of b.problem (P.replies_of b.search) b.cache b.wishes.items b.aborted b.ledger };
+
+    ghost invariant = { λ b. IsBoard P.shown (P.rules_of b.search) (state_of b.problem (P.replies_of b.search) b.cache b.wishes.items b.aborted b.ledger) };
+}
+
+/// A search by the rules of a problem.
+fn open_search<P: Search>(alloc: Global, problem: &Problem) -> Result<P, Memory>
+    ensures rules { IfOk result (λ s. P.rules_of s ≡ problem.now.rules) }
+    ensures none { IfOk result (λ s. P.replies_of s ≡ []) }
+{
+    P::open(alloc, &problem.rules)
+}
+
+/// A cache under the limits of a problem.
+fn open_cache(alloc: Global, problem: &Problem) -> Cache
+    ensures { result ≡ record { limits = problem.now.rules.limits; conflicts = 0; rows = [] } }
+{
+    Cache::new(alloc, problem.rules.limits)
+}
+
+impl<P: Search, S: Spawner> Board<P, S> {
+    /// The opening board of a problem. It has the room for a stop.
+    pub fn open(alloc: Global, problem: Problem) -> Result<Board<P, S>, Memory>
+        ensures board { IfOk result (λ b. plain b ≡ opening problem) }
+        ensures invariant { IfOk result (BoardInvariant P.shown) }
+    {
+        let search = open_search(alloc, &problem)?;
+        let cache = open_cache(alloc, &problem);
+        let ledger = Ledger::new(alloc)?;
+        Ok(Board {
+            problem,
+            search,
+            cache,
+            wishes: Vec::new(alloc),
+            aborted: None,
+            ledger,
+            of: PhantomData,
+        })
+    }
+
+    /// What holds of each board.
+    pub fn is_board(&self)
+        ensures { BoardInvariant P.shown self.now }
+    {
+        let _ = &self.problem;
+    }
+
+    /// What is tuned.
+    pub fn problem(&self) -> &Problem
+        ensures { result.now ≡ self.now.problem }
+    {
+        &self.problem
+    }
+
+    /// The search.
+    pub fn search(&self) -> &P
+        ensures rules { P.rules_of result.now ≡ self.now.problem.rules }
+        ensures replies { P.replies_of result.now ≡ self.now.replies }
+    {
+        &self.search
+    }
+
+    /// What is known.
+    pub fn cache(&self) -> &Cache
+        ensures { result.now ≡ self.now.cache }
+    {
+        &self.cache
+    }
+
+    /// The number of live tickets.
+    pub fn live(&self) -> usize
+        ensures { result ≡ length self.now.live }
+    {
+        self.ledger.live().len()
+    }
+
+    /// What happened, oldest first.
+    pub fn journal(&self) -> &[Event]
+        ensures { result.now ≡ self.now.journal }
+    {
+        self.ledger.journal()
+    }
+
+    /// What the board says of a ticket. Takes no memory.
+    pub fn standing(&self, ticket: &Ticket) -> Standing
+        ensures { result ≡ standing_of (found_in self.now.live ticket.now) }
+    {
+        self.ledger.standing(ticket)
+    }
+
+    /// Whether the search is at its end. Takes no memory.
+    pub fn ending(&self) -> Ending<'_>
+        ensures { IsEnding P.shown self.now result }
+    {
+        match &self.aborted {
+            Some(cell) => Ending::Aborted(cell),
+            None => match self.search.ask() {
+                Ask::End => Ending::Finished,
+                _ => Ending::Running,
+            },
+        }
+    }
+
+    /// Where the board stands.
+    pub(crate) fn phase(&self) -> Phase
+        ensures value { result ≡ phase_of P.shown (plain self.now) }
+        ensures fits { IfOpen result (λ v. IfReplies v (Fits (ask_on P.shown (plain self.now)))) }
+        ensures runnable { IfOpen result (λ v. IfNeeds v (λ place cutoff. IsRunnable self.now.problem.rules (cell_on P.shown (plain self.now) place) cutoff)) }
+    {
+        if self.ledger.stopped() {
+            return Phase::Stopped;
+        }
+        if self.aborted.is_some() {
+            return Phase::Aborted;
+        }
+        Phase::Open(verdict_by(&self.search, &self.cache))
+    }
+}

@@ -1,0 +1,82 @@
+//! The steps that mark tickets.
+ghost use Rattle.std.specs.Prelude.{◌≡◌, ◌||◌, OnOk, OnErr, length, nat_lt};
+ghost use Rattle.board_steps.specs.Boards.{plain};
+ghost use Rattle.board_steps.specs.Phases.{phase_of};
+ghost use Rattle.board_steps.specs.Steps.{after_mark, after_resume, after_stop, is_unwanted, marked_board, marked_on};
+ghost use Rattle.board_steps.specs.Tickets.{all_unwanted, mark_events};
+
+use crate::board::Board;
+use board_steps::Phase;
+use capping::Verdict;
+use ils_face::{Ask, Search};
+use objective::{Memory, Micros};
+use outside::Spawner;
+
+impl<P: Search, S: Spawner> Board<P, S> {
+    /// Marks the live tickets whose run isn't wanted any more, and tells how many newly. Takes no
+    /// memory.
+    pub fn mark(&mut self) -> usize
+        ensures answer { result ≡ marked_on P.shown (plain self.old) }
+        ensures board { plain self.new ≡ after_mark P.shown (plain self.old) }
+    {
+        match self.phase() {
+            Phase::Stopped => self.mark_all(),
+            Phase::Aborted => self.mark_all(),
+            Phase::Open(Verdict::Ended) => self.mark_all(),
+            Phase::Open(Verdict::Need { place, cutoff }) => self.mark_beside(place, cutoff),
+            Phase::Open(Verdict::Reply(_)) => 0,
+            Phase::Open(Verdict::Aborted { .. }) => 0,
+        }
+    }
+
+    /// Marks every live ticket.
+    fn mark_all(&mut self) -> usize
+        ensures answer { result ≡ length (mark_events all_unwanted self.old.live) }
+        ensures board { plain self.new ≡ marked_board (plain self.old) all_unwanted }
+    {
+        self.ledger.mark_all()
+    }
+
+    /// Marks the live tickets that aren't wanted where a run is needed.
+    fn mark_beside(&mut self, place: u32, cutoff: Micros) -> usize
+        requires { phase_of P.shown (plain self.old) ≡ Phase.Open (Verdict.Need place cutoff) }
+        ensures answer { result ≡ length (mark_events (is_unwanted P.shown (plain self.old)) self.old.live) }
+        ensures board { plain self.new ≡ marked_board (plain self.old) (is_unwanted P.shown (plain self.old)) }
+    {
+        let wishes = self.wishes.as_slice();
+        match self.search.ask() {
+            Ask::Full { config, .. } => self.ledger.mark_beside(wishes, config, place, cutoff),
+            Ask::Versus { config, .. } => self.ledger.mark_beside(wishes, config, place, cutoff),
+            Ask::End => unreachable!(),
+        }
+    }
+
+    /// Marks every live ticket and gives no more. Takes no memory.
+    pub fn stop(&mut self)
+        ensures { plain self.new ≡ after_stop (plain self.old) }
+    {
+        if !self.ledger.stopped() {
+            self.ledger.stop();
+        }
+    }
+
+    /// Goes on without live tickets, which is called where no seat runs. After want of memory
+    /// the board is as it was.
+    pub fn resume(&mut self) -> Result<(), Memory>
+        ensures board { OnOk result (plain self.new ≡ after_resume (plain self.old)) }
+        ensures err { OnErr result (self.new ≡ self.old) }
+    {
+        if !self.is_halted() {
+            return Ok(());
+        }
+        self.ledger.resume()?;
+        Ok(())
+    }
+
+    /// Whether the board is stopped or has a live ticket.
+    fn is_halted(&self) -> bool
+        ensures { result ≡ (self.now.stopped || nat_lt 0 (length self.now.live)) }
+    {
+        self.ledger.stopped() || !self.ledger.live().is_empty()
+    }
+}

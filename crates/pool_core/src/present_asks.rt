@@ -1,0 +1,102 @@
+//! What is known makes of the present ask of a search, and what that makes likely.
+ghost use Rattle.std.specs.Prelude.{◌≡◌, ◌++◌, ◌∷◌, [], All, IfOk};
+ghost use Rattle.std.specs.Cmp.Lexicographic.{pointwise};
+ghost use Rattle.ils_face.specs.Replies.{Fits};
+ghost use Rattle.run_cache.specs.Caches.{known_in};
+ghost use Rattle.capping.specs.Verdicts.{verdict_of};
+ghost use Rattle.predictor.specs.Wishes.{wishes_of};
+ghost use Rattle.board_steps.specs.Numbering.{IsRunnable};
+ghost use Rattle.board_steps.specs.Phases.{config_of, IfReplies, IfNeeds};
+ghost use Rattle.board_steps.specs.Steps.{same_wish};
+
+use board_steps::same_cell;
+use capping::{Verdict, decide};
+use ils_face::{Ask, Reply, Search};
+use objective::Memory;
+use param_space::Config;
+use predictor::{Wish, wishes};
+use run_cache::{Cache, Cell};
+use std::alloc::Global;
+
+/// What is known makes of the present ask. Takes no memory.
+pub(crate) fn verdict_by<P: Search>(search: &P, cache: &Cache) -> Verdict
+    requires { cache.now.limits ≡ (P.rules_of search.now).limits }
+    ensures value { result ≡ verdict_of cache.now.limits (known_in cache.now) (P.shown (P.rules_of search.now) (P.replies_of search.now)).ask }
+    ensures fits { IfReplies result (Fits (P.shown (P.rules_of search.now) (P.replies_of search.now)).ask) }
+    ensures runnable { IfNeeds result (λ place cutoff. IsRunnable (P.rules_of search.now) (record { config = config_of (P.shown (P.rules_of search.now) (P.replies_of search.now)).ask; place = place }) cutoff) }
+{
+    decide(cache, search.ask())
+}
+
+/// The cell of the present ask's configuration at a place.
+pub(crate) fn asked_cell<P: Search>(alloc: Global, search: &P, place: u32) -> Result<Cell, Memory>
+    ensures { IfOk result (λ c. c ≡ record { config = config_of (P.shown (P.rules_of search.now) (P.replies_of search.now)).ask; place = place }) }
+{
+    match search.ask() {
+        Ask::Full { config, .. } => Cell::at(config, place),
+        Ask::Versus { config, .. } => Cell::at(config, place),
+        Ask::End => Ok(Cell {
+            config: Config::new(Vec::new(alloc)),
+            place,
+        }),
+    }
+}
+
+/// The wishes at the present ask, at most k.
+pub(crate) fn wishes_now<P: Search>(
+    alloc: Global,
+    search: &P,
+    cache: &Cache,
+    k: u32,
+) -> Result<Vec<Wish>, Memory>
+    requires { cache.now.limits ≡ (P.rules_of search.now).limits }
+    ensures value { IfOk result (λ w. w.items ≡ wishes_of (P.shown (P.rules_of search.now)) cache.now.limits (known_in cache.now) (P.replies_of search.now) k) }
+    ensures runnable { IfOk result (λ w. All (λ w. IsRunnable (P.rules_of search.now) w.cell w.cutoff.0) w.items) }
+{
+    wishes(alloc, search, cache, k)
+}
+
+/// The wishes after a reply to the present ask, at most k. The search is left as it was; with
+/// k = 0 nothing is copied.
+pub(crate) fn wishes_after<P: Search>(
+    alloc: Global,
+    search: &P,
+    cache: &Cache,
+    reply: Reply,
+    k: u32,
+) -> Result<Vec<Wish>, Memory>
+    requires limits { cache.now.limits ≡ (P.rules_of search.now).limits }
+    requires fits { Fits (P.shown (P.rules_of search.now) (P.replies_of search.now)).ask reply }
+    ensures value { IfOk result (λ w. w.items ≡ wishes_of (P.shown (P.rules_of search.now)) cache.now.limits (known_in cache.now) (P.replies_of search.now ++ reply ∷ []) k) }
+    ensures runnable { IfOk result (λ w. All (λ w. IsRunnable (P.rules_of search.now) w.cell w.cutoff.0) w.items) }
+{
+    let _ = search.ask(); // it tells what the replies so far are
+    if k == 0 {
+        return Ok(Vec::new(alloc));
+    }
+    let mut ahead = search.copy()?;
+    ahead.answer(reply)?;
+    wishes_now(alloc, &ahead, cache, k)
+}
+
+/// Whether two wishes are the same.
+fn same_wish_as(one: &Wish, other: &Wish) -> bool
+    ensures { result ≡ same_wish one.now other.now }
+{
+    same_cell(&one.cell, &other.cell) && one.cutoff.0 == other.cutoff.0
+}
+
+/// Whether the wishes are the same.
+pub(crate) fn same_wishes(left: &[Wish], right: &[Wish]) -> bool
+    ensures { result ≡ pointwise same_wish left.now right.now }
+{
+    if left.len() != right.len() {
+        return false;
+    }
+    for i in 0..left.len() {
+        if !same_wish_as(&left[i], &right[i]) {
+            return false;
+        }
+    }
+    true
+}

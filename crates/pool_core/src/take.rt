@@ -1,0 +1,143 @@
+//! The step that gives a ticket.
+ghost use Rattle.std.specs.Prelude.{◌≡◌, ◌≤◌, false, IfOk, OnOk, OnErr, IfSome, length};
+ghost use Rattle.std.specs.List.{find, position_or_len};
+ghost use Rattle.objective.specs.Limits.{max_runs};
+ghost use Rattle.run_cache.specs.Knowledge;
+ghost use Rattle.board_steps.specs.Boards.{plain};
+ghost use Rattle.board_steps.specs.Numbering.{IsRunnable};
+ghost use Rattle.board_steps.specs.Phases.{asked_cell as cell_on, phase_of};
+ghost use Rattle.board_steps.specs.Steps.{after_take, is_free, taken_on, ticket_for};
+ghost use Rattle.board_steps.specs.Tickets;
+
+use crate::board::Board;
+use crate::present_asks::asked_cell;
+use board_steps::{Kind, Phase, Taken, Ticket, has_cell, has_ticket, same_cell};
+use capping::Verdict;
+use ils_face::Search;
+use objective::{Memory, Micros};
+use outside::Spawner;
+use predictor::Wish;
+use run_cache::{Cell, Known};
+use wrapper_lines::Run;
+
+/// Whether a run with this cutoff would tell nothing more.
+fn is_settled(known: Known, cutoff: Micros) -> bool
+    ensures { result ≡ Knowledge.is_settled known cutoff.0 }
+{
+    match known {
+        Known::Nothing => false,
+        Known::Over(time) => cutoff.0 <= time.0,
+        Known::Exact(_) | Known::Abort => true,
+    }
+}
+
+impl<P: Search, S: Spawner> Board<P, S> {
+    /// Gives a ticket: for the needed run, or where that is being made for one that may be needed
+    /// soon. After want of memory no ticket was given; the cache may have a further place.
+    pub fn take(&mut self) -> Result<Taken, Memory>
+        ensures answer { IfOk result (λ t. t ≡ taken_on P.shown (plain self.old)) }
+        ensures board { OnOk result (plain self.new ≡ after_take P.shown (plain self.old)) }
+        ensures err { OnErr result (plain self.new ≡ plain self.old) }
+    {
+        match self.phase() {
+            Phase::Stopped => Ok(Taken::Stopped),
+            Phase::Aborted => Ok(Taken::Ended),
+            Phase::Open(Verdict::Ended) => Ok(Taken::Ended),
+            Phase::Open(Verdict::Reply(_)) => Ok(Taken::Decided),
+            Phase::Open(Verdict::Aborted { .. }) => Ok(Taken::Decided),
+            Phase::Open(Verdict::Need { place, cutoff }) => self.take_needed(place, cutoff),
+        }
+    }
+
+    /// Gives a ticket where a run is needed.
+    fn take_needed(&mut self, place: u32, cutoff: Micros) -> Result<Taken, Memory>
+        requires stands { phase_of P.shown (plain self.old) ≡ Phase.Open (Verdict.Need place cutoff) }
+        requires runnable { IsRunnable self.old.problem.rules (cell_on P.shown (plain self.old) place) cutoff.0 }
+        ensures answer { IfOk result (λ t. t ≡ taken_on P.shown (plain self.old)) }
+        ensures board { OnOk result (plain self.new ≡ after_take P.shown (plain self.old)) }
+        ensures err { OnErr result (plain self.new ≡ plain self.old) }
+    {
+        let needed = asked_cell(*self.wishes.allocator(), &self.search, place)?;
+        if !has_ticket(self.ledger.live(), &needed) {
+            return self.give(Kind::Asked, needed, cutoff);
+        }
+        match self.free_wish(&needed)? {
+            None => Ok(Taken::Idle),
+            Some(wish) => self.give(Kind::Ahead, wish.cell, wish.cutoff),
+        }
+    }
+
+    /// Whether a seat may run ahead for a wish, beside the needed cell.
+    #[tactic(auto, unfolding(board_steps::specs::Steps::is_free, board_steps::specs::Boards::plain))]
+    fn is_free(&self, needed: &Cell, wish: &Wish) -> bool
+        ensures { result ≡ is_free (plain self.now) needed.now wish.now }
+    {
+        !has_ticket(self.ledger.live(), &wish.cell)
+            && !has_cell(self.ledger.shunned(), &wish.cell)
+            && !same_cell(needed, &wish.cell)
+            && !is_settled(self.cache.known(&wish.cell), wish.cutoff)
+    }
+
+    /// The place of the first of these wishes that a seat may run ahead for, or how many they are.
+    fn first_free(&self, wishes: &[Wish], needed: &Cell) -> usize
+        ensures value { result ≡ position_or_len (is_free (plain self.now) needed.now) wishes.now }
+        ensures within { result ≤ length wishes.now }
+    {
+        for i in 0..wishes.len() {
+            if self.is_free(needed, &wishes[i]) {
+                return i;
+            }
+        }
+        wishes.len()
+    }
+
+    /// The first wish that a seat may run ahead for.
+    fn free_wish(&self, needed: &Cell) -> Result<Option<Wish>, Memory>
+        ensures value { IfOk result (λ w. w ≡ find (is_free (plain self.now) needed.now) self.now.wishes) }
+        ensures runnable { IfOk result (λ w. IfSome w (λ w. IsRunnable self.now.problem.rules w.cell w.cutoff.0)) }
+        ensures free { IfOk result (λ w. IfSome w (λ w. Tickets.has_ticket self.now.live w.cell ≡ false)) }
+    {
+        let wishes = self.wishes.as_slice();
+        let i = self.first_free(wishes, needed);
+        if i == wishes.len() {
+            return Ok(None);
+        }
+        Ok(Some(wishes[i].copy()?))
+    }
+
+    /// The ticket for a cell under a cutoff.
+    #[tactic(auto, unfolding(board_steps::specs::Steps::ticket_for, board_steps::specs::Boards::plain))]
+    fn ticket_for(&self, kind: Kind, cell: Cell, cutoff: Micros) -> Result<Ticket, Memory>
+        requires { IsRunnable self.now.problem.rules cell cutoff.0 }
+        ensures value { IfOk result (λ t. t ≡ ticket_for (plain self.now) kind cell cutoff.0) }
+        ensures few { self.now.problem.rules.max_runs ≤ max_runs }
+    {
+        let _ = &self.problem.rules.max_runs; // its type keeps it in range
+        let key = self.problem.key_of(*self.wishes.allocator(), &cell)?;
+        Ok(Ticket {
+            number: self.ledger.next(),
+            cell,
+            run: Run { key, cutoff },
+            kind,
+            place: self.search.answers(),
+        })
+    }
+
+    /// Gives the ticket for a cell under a cutoff, with the places that its end needs.
+    fn give(&mut self, kind: Kind, cell: Cell, cutoff: Micros) -> Result<Taken, Memory>
+        requires offered { taken_on P.shown (plain self.old) ≡ Taken.Ticket (ticket_for (plain self.old) kind cell cutoff.0) }
+        requires running { self.old.stopped ≡ false }
+        requires alone { Tickets.has_ticket self.old.live cell ≡ false }
+        requires runnable { IsRunnable self.old.problem.rules cell cutoff.0 }
+        ensures answer { IfOk result (λ t. t ≡ taken_on P.shown (plain self.old)) }
+        ensures board { OnOk result (plain self.new ≡ after_take P.shown (plain self.old)) }
+        ensures err { OnErr result (plain self.new ≡ plain self.old) }
+    {
+        let ticket = self.ticket_for(kind, cell, cutoff)?;
+        let kept = ticket.copy()?;
+        let cell = ticket.cell.copy()?;
+        self.cache.reserve(&cell)?;
+        self.ledger.give(kept, cell)?;
+        Ok(Taken::Ticket(ticket))
+    }
+}
