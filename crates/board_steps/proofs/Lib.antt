@@ -7,4 +7,18 @@ pub mod Replayed
 pub mod MarkedTickets
 pub mod SameTickets
 pub mod KeptBoards
+pub mod JournalRuns
+pub mod AgreeingBoards
+pub mod GivenTickets
+pub mod AskedTickets
+pub mod AbortedBoards
+pub mod SummedReplies
+pub mod RecordedRuns
+pub mod RisingBoards
+pub mod KnownRanges
+pub mod RepliedAsks
+pub mod DueTickets
+mod EarlierEntries
+pub mod ShownEntries
+pub mod TruthfulBoards
 pub mod KeptKnowledge
