@@ -9,7 +9,6 @@ use Rattle.objective.specs.Costs.{Table}
 use Rattle.objective.specs.declared.Answer.{Answer}
 use Rattle.objective.specs.Bounds.{Bounds}
 use Rattle.objective.specs.declared.Micros.{Micros}
-use Rattle.uncapped.specs.Procedure.{Question}
 use Rattle.ils_face.specs.declared.asks.Ask.{Ask}
 use Rattle.ils_face.specs.declared.asks.Ask.TheVariants.{Full, Versus, End}
 use Rattle.ils_face.specs.declared.asks.Reply.{Reply}
@@ -28,7 +27,7 @@ use Rattle.capping.proofs.OtherCells.{abort-stays}
 use Rattle.board_steps.specs.declared.answers.Phase.TheVariants as phase
 use Rattle.board_steps.specs.declared.events.Event.{Event}
 use Rattle.board_steps.specs.declared.events.Event.TheVariants as event
-use Rattle.board_steps.specs.declared.events.Event.TheVariants.{Advance, Take, Record, Lost, Mark, Killed, Stop, Resume}
+use Rattle.board_steps.specs.declared.events.Event.TheVariants.{Advance, Mark}
 use Rattle.board_steps.specs.declared.tickets.LiveTicket.{LiveTicket}
 use Rattle.board_steps.specs.declared.tickets.Ticket.{Ticket}
 use Rattle.board_steps.specs.Boards.{PlainBoard, opening}
@@ -38,51 +37,9 @@ use Rattle.board_steps.specs.Problem.{Problem}
 use Rattle.board_steps.specs.Replays.{replay}
 use Rattle.board_steps.specs.Steps.{same_wish, with_ticket, known_from, with_answer, with_loss, with_kill, with_reply, with_wishes, with_abort, marked_board, stopped_board, resumed_board}
 use Rattle.board_steps.specs.Tickets.{mark_event, mark_events}
+use Rattle.board_steps.specs.AbortedCells.{IsNoAdvance, CameTo, IsAbortedAt, IsAborting, IsFirstAborting}
 use Rattle.board_steps.proofs.GivenTickets.{verdict-open}
 use Rattle.board_steps.proofs.Replayed.{IsReplayed}
-
--- ---- definitions
-
--- the event isn't an advance
-abbrev pub IsNoAdvance : Event → Type 0
-IsNoAdvance Advance = ⊥
-IsNoAdvance (Take number kind cell cutoff asked_at) = Unit {0}
-IsNoAdvance (Record number answer) = Unit {0}
-IsNoAdvance (Lost number) = Unit {0}
-IsNoAdvance (Mark number) = Unit {0}
-IsNoAdvance (Killed number) = Unit {0}
-IsNoAdvance Stop = Unit {0}
-IsNoAdvance Resume = Unit {0}
-
-module _ (shown : Rules → List Reply → View) where
-  -- before its last advance the journal makes a board with the same replies, whose verdict is that this cell aborts
-  pub record CameTo (b : PlainBoard) (cell : Cell) : Type 0 where
-    pub earlier : List Event
-    pub later : List Event
-    pub parted : b.journal ≡ earlier ++ Advance ∷ later
-    pub last : All IsNoAdvance later
-    pub replies : (replay shown b.problem earlier).replies ≡ b.replies
-    pub aborts : verdict_on shown (replay shown b.problem earlier) ≡ verdict.Aborted cell.place
-    pub there : asked_cell shown (replay shown b.problem earlier) cell.place ≡ cell
-
-  -- the cell is known to abort and is one of the present ask, at a place that is asked for; the walk of this ask comes to it,
-  -- as it did before the last advance
-  pub record IsAbortedAt (b : PlainBoard) (cell : Cell) : Type 0 where
-    pub known : b.known cell.config cell.place ≡ Abort
-    pub config : cell.config ≡ config_of (ask_on shown b)
-    pub first : 1 ≤ cell.place
-    pub within : cell.place ≤ place_count (ask_on shown b)
-    pub aborts : verdict_on shown b ≡ verdict.Aborted cell.place
-    pub came : CameTo b cell
-
-  -- a cell is set as aborted only where the walk of the present ask came to it
-  pub record IsAborting (b : PlainBoard) : Type 0 where
-    pub at : (cell : Cell) → b.aborted ≡ Some cell → IsAbortedAt b cell
-
--- the run of the cell is due at the question of its configuration and aborts, and none before it does
-pub record IsFirstAborting (limits : Bounds) (T : Table) (cell : Cell) (q : Question) : Type 0 where
-  pub config : q.config ≡ cell.config
-  pub first : IsFirstAbort limits T cell.place q
 
 -- ---- the present ask, where its walk comes to an abort
 

@@ -15,7 +15,6 @@ use Rattle.run_cache.specs.declared.cell.Cell.{Cell}
 use Rattle.run_cache.specs.declared.known.Known.{Known}
 use Rattle.run_cache.specs.Caches.{Knowledge, is_at, known_after, conflicts_after}
 use Rattle.run_cache.specs.Knowledge.{Agrees}
-use Rattle.run_cache.specs.Runs.{CellRun}
 use Rattle.run_cache.proofs.Agreement.{learns}
 use Rattle.board_steps.specs.declared.events.Event.{Event}
 use Rattle.board_steps.specs.declared.events.Event.TheVariants.{Advance, Lost, Killed, Stop, Resume}
@@ -29,19 +28,10 @@ use Rattle.board_steps.specs.Problem.{Problem}
 use Rattle.board_steps.specs.ProblemRuns.{key_of, told_outcome, table_of}
 use Rattle.board_steps.specs.Steps.{with_ticket, known_from, is_conflict, with_answer, with_loss, with_kill, with_reply, with_wishes, with_abort, same_wish, marked_board, stopped_board, resumed_board}
 use Rattle.board_steps.specs.Tickets.{live_at}
-use Rattle.board_steps.proofs.JournalRuns.{runs_of, recorded_in, run_of, AreTaken, of-live, runs-other, runs-marks, runs-answer}
+use Rattle.board_steps.specs.JournalRuns.{runs_of, recorded_in, run_of, AreTaken}
+use Rattle.board_steps.specs.AgreeingBoards.{IsShown, IsAgreeing}
+use Rattle.board_steps.proofs.JournalRuns.{of-live, runs-other, runs-marks, runs-answer}
 use Rattle.board_steps.proofs.Ranges.{same_cell-equal}
-
--- the run shows what its cell's outcome does under its cutoff
-abbrev pub IsShown : Table → CellRun → Type 0
-IsShown T run = run.answer ≡ seen (T run.cell.config run.cell.place) run.cutoff
-
--- what is known of each cell agrees with its outcome, no run contradicted what was known, and each recorded run shows its
--- cell's outcome
-pub record IsAgreeing (truth : Option (Key → Outcome)) (b : PlainBoard) : Type 0 where
-  pub known : (config : List ℕ) (place : ℕ) → Agrees b.problem.rules.limits (b.known config place) (table_of truth b.problem config place)
-  pub conflicts : b.conflicts ≡ 0
-  pub shown : All (IsShown (table_of truth b.problem)) (runs_of b.journal)
 
 -- an answer that is what the outcome of each key shows, where the outcomes are told
 pub told-answer : (truth : Option (Key → Outcome)) (key : Key) (cutoff : ℕ) (answer : Answer) → IsSome truth

@@ -2,8 +2,7 @@
 use Rattle.std.proofs.Common.{ℕ, ◌≡◌, ◌≤◌, ◌<◌, ◌-◌, ◌⊎◌, ◌++◌, ◌&&◌, not, Bool, true, false, List, [], ◌∷◌, Option, Some, None, All, length, get_or, refl, ap, subst, inl, inr, arith, length-append, if◌then◌else◌}
 use Rattle.std.specs.Prelude.{IsSomeAnd}
 use Rattle.std.specs.Cmp.Lexicographic.{pointwise}
-use Rattle.std.specs.List.{Contains, flat_map}
-use Rattle.std.specs.List.Sorted.{IsNonDecreasing}
+use Rattle.std.specs.List.{Contains}
 use Rattle.std.proofs.lemmas.List.{append_assoc, append-nil}
 use Rattle.std.proofs.lemmas.List.Elements.{All-cons, All-head, All-contains, All-contains_itself, Contains-append_left, Contains-append_right, All-nil, All-push, All-weaker, All-get_or}
 use Rattle.std.proofs.lemmas.List.Sorted.{IsNonDecreasingBy-short, IsNonDecreasingBy-push}
@@ -13,7 +12,6 @@ use Rattle.objective.specs.declared.Answer.{Answer}
 use Rattle.objective.specs.declared.Micros.{Micros}
 use Rattle.objective.specs.declared.Outcome.{Outcome}
 use Rattle.wrapper_lines.specs.declared.runs.Key.{Key}
-use Rattle.uncapped.specs.Procedure.{Question}
 use Rattle.uncapped.specs.Uncapped.{Run}
 use Rattle.ils_face.specs.declared.asks.Ask.{Ask}
 use Rattle.ils_face.specs.declared.asks.Ask.TheVariants.{Full, Versus, End}
@@ -33,7 +31,7 @@ use Rattle.capping.proofs.WalkEnds.{IsOpen}
 use Rattle.board_steps.specs.declared.answers.Taken.TheVariants as taken
 use Rattle.board_steps.specs.declared.events.Event.{Event}
 use Rattle.board_steps.specs.declared.events.Event.TheVariants.{Advance, Take, Record, Lost, Mark, Killed, Stop, Resume}
-use Rattle.board_steps.specs.declared.tickets.Kind.TheVariants.{Asked, Ahead}
+use Rattle.board_steps.specs.declared.tickets.Kind.TheVariants.{Asked}
 use Rattle.board_steps.specs.declared.tickets.LiveTicket.{LiveTicket}
 use Rattle.board_steps.specs.declared.tickets.Ticket.{Ticket}
 use Rattle.board_steps.specs.Boards.{PlainBoard, opening}
@@ -43,51 +41,13 @@ use Rattle.board_steps.specs.Problem.{Problem}
 use Rattle.board_steps.specs.ProblemRuns.{table_of}
 use Rattle.board_steps.specs.Steps.{ticket_for, taken_on, with_ticket, with_answer, with_loss, with_kill, with_reply, with_wishes, with_abort, same_wish, marked_board, stopped_board, resumed_board}
 use Rattle.board_steps.specs.Tickets.{mark_event, mark_events}
-use Rattle.board_steps.proofs.AgreeingBoards.{IsAgreeing}
+use Rattle.board_steps.specs.AgreeingBoards.{IsAgreeing}
+use Rattle.board_steps.specs.JournalRuns.{run_of}
+use Rattle.board_steps.specs.RepliedAsks.{quiet_by, AreReplied}
+use Rattle.board_steps.specs.DueTickets.{IsDueTake, place_taken, places_taken, AreInOrder, AreDueTickets}
 use Rattle.board_steps.proofs.GivenTickets.{verdict-open, IsNeededTicket, IsAheadTicket, given}
-use Rattle.board_steps.proofs.JournalRuns.{run_of}
 use Rattle.board_steps.proofs.Ranges.{flat_map-push, flat_map-push_none}
-use Rattle.board_steps.proofs.RepliedAsks.{quiet_by, AreReplied, ended-walk, present-ask}
-
--- ---- definitions
-
--- the run of an asked ticket is due, whatever it answers, at the ask whose number is the place at which it was taken
-abbrev pub IsDueTake : Bounds → Table → List Question → Event → Type 0
-IsDueTake limits T asks Advance = Unit {0}
-IsDueTake limits T asks (Take number Asked cell cutoff asked_at) =
-    (answer : Answer) → IsDue limits T asks asked_at (record { cell = cell; cutoff = cutoff.0; answer = answer })
-IsDueTake limits T asks (Take number Ahead cell cutoff asked_at) = Unit {0}
-IsDueTake limits T asks (Record number answer) = Unit {0}
-IsDueTake limits T asks (Lost number) = Unit {0}
-IsDueTake limits T asks (Mark number) = Unit {0}
-IsDueTake limits T asks (Killed number) = Unit {0}
-IsDueTake limits T asks Stop = Unit {0}
-IsDueTake limits T asks Resume = Unit {0}
-
--- the place at which an event took a ticket: the number of replies that the search had
-abbrev pub place_taken : Event → List ℕ
-place_taken Advance = []
-place_taken (Take number kind cell cutoff asked_at) = asked_at ∷ []
-place_taken (Record number answer) = []
-place_taken (Lost number) = []
-place_taken (Mark number) = []
-place_taken (Killed number) = []
-place_taken Stop = []
-place_taken Resume = []
-
--- the places at which all tickets were taken, oldest first
-abbrev pub places_taken : List Event → List ℕ
-places_taken journal = flat_map place_taken journal
-
--- along a journal the places at which tickets were taken never fall, and none is above this number of replies
-pub record AreInOrder (replies : ℕ) (journal : List Event) : Type 0 where
-  pub rising : IsNonDecreasing (places_taken journal)
-  pub within : All (λ place. place ≤ replies) (places_taken journal)
-
--- each run that was asked for is due, and the places at which tickets were taken are in order
-pub record AreDueTickets (plain : Rules → Table → Run) (truth : Option (Key → Outcome)) (b : PlainBoard) : Type 0 where
-  pub due : All (IsDueTake b.problem.rules.limits (table_of truth b.problem) (quiet_by plain truth b.problem).asks) b.journal
-  pub order : AreInOrder (length b.replies) b.journal
+use Rattle.board_steps.proofs.RepliedAsks.{ended-walk, present-ask}
 
 -- ---- the order of the places
 

@@ -1,10 +1,15 @@
 -- What each step keeps of a board's invariant, and what it makes of the plain board.
-use Rattle.std.proofs.Common.{ℕ, suc, zero, ◌≡◌, ◌++◌, ◌||◌, Bool, true, false, List, [], ◌∷◌, Some, None, All, IsTrue, length, map, refl, sym, ap, ◌∙◌, arith, subst, nat_lt, if◌then◌else◌}
+use Rattle.std.proofs.Common.{ℕ, suc, zero, ◌≡◌, ◌++◌, ◌||◌, Bool, true, false, List, [], ◌∷◌, Option, Some, None, All, IsTrue, length, map, refl, sym, ap, ◌∙◌, arith, subst, nat_lt, if◌then◌else◌}
 use Rattle.std.specs.Cmp.Lexicographic.{pointwise}
 use Rattle.std.proofs.lemmas.List.Elements.{All-nil, All-push, All-weaker, All-map}
+use Rattle.objective.specs.Costs.{Table, IsWithin}
 use Rattle.objective.specs.declared.Answer.{Answer}
+use Rattle.objective.specs.declared.Outcome.{Outcome}
+use Rattle.wrapper_lines.specs.declared.runs.Key.{Key}
+use Rattle.uncapped.specs.Uncapped.{Run}
 use Rattle.ils_face.specs.declared.asks.Reply.{Reply}
-use Rattle.ils_face.specs.Rules.{Rules}
+use Rattle.ils_face.specs.Follows.{Follows, sums_under}
+use Rattle.ils_face.specs.Rules.{Rules, AreRules}
 use Rattle.ils_face.specs.Views.{View}
 use Rattle.objective.specs.declared.Micros.{Micros}
 use Rattle.run_cache.specs.declared.cell.Cell.{Cell}
@@ -19,14 +24,16 @@ use Rattle.board_steps.specs.declared.events.Event.TheVariants as event
 use Rattle.board_steps.specs.declared.tickets.LiveTicket.{LiveTicket}
 use Rattle.board_steps.specs.declared.tickets.Ticket.{Ticket}
 use Rattle.board_steps.specs.Boards.{BoardState, PlainBoard, opening, plain}
-use Rattle.board_steps.specs.BoardInvariant.{BoardInvariant}
+use Rattle.board_steps.specs.BoardInvariant.{BoardInvariant, IsStopped}
 use Rattle.board_steps.specs.Ledgers.{take_event, unmarked, shunned_after}
-use Rattle.board_steps.specs.Numbering.{IsRunnable, IsRunnableTake, IsTicket, tickets_of}
+use Rattle.board_steps.specs.Numbering.{IsRunnable, IsRunnableTake, IsTicket, IsNumbered, tickets_of}
 use Rattle.board_steps.specs.Phases.{phase_of, wishes_on, asked_cell}
 use Rattle.board_steps.specs.Problem.{Problem}
 use Rattle.board_steps.specs.ProblemRuns.{key_of}
+use Rattle.board_steps.specs.Replays.{replay}
 use Rattle.board_steps.specs.Steps.{taken_on, with_ticket, known_from, is_conflict, with_answer, with_loss, with_kill, with_reply, with_wishes, with_abort, same_wish, marked_board, stopped_board, resumed_board}
 use Rattle.board_steps.specs.Tickets.{live_at, place_of, without, marked, marked_if, mark_events, has_ticket}
+use Rattle.board_steps.proofs.KeptParts.{IsTold, HasParts, parts-opening, parts-reply, parts-wishes, parts-abort, parts-ticket, parts-answer, parts-loss, parts-kill, parts-marks, parts-stop, parts-resume}
 use Rattle.board_steps.proofs.LiveTickets.{tickets-marked, tickets-marked_if, tickets-push, none-of-cell, numbered-without, all-without, numbered-marks}
 use Rattle.board_steps.proofs.MarkedTickets.{HaveOwnNumbers, replayed-marks}
 use Rattle.board_steps.proofs.Numbered.{numbered-other, numbered-none, numbered-take, all-remove}
@@ -77,20 +84,63 @@ HasPlace has_place t = IsTrue (has_place t.cell.config t.cell.place)
 abbrev IsMarked : LiveTicket → Type 0
 IsMarked l = l.marked ≡ true
 
-module _ (shown : Rules → List Reply → View) where
+-- the parts of a board's invariant that are over what it holds
+record HasOwnParts (shown : Rules → List Reply → View) (b : BoardState) : Type 0 where
+  ruled : AreRules b.problem.rules
+  limits : b.cache.limits ≡ b.problem.rules.limits
+  replays : plain b ≡ replay shown b.problem b.journal
+  numbering : IsNumbered b
+  stopped : IsStopped b
+
+module _ (shown : Rules → List Reply → View) (procedure : Rules → Table → Run) (truth : Option (Key → Outcome)) where
+  -- the parts of a board's invariant that are over the plain board
+  parts-of : (b : BoardState) → BoardInvariant shown procedure truth b → HasParts shown procedure truth (plain b)
+  parts-of b inv = record {
+    ranged = inv.ranged;
+    taken = inv.taken;
+    asked = inv.asked;
+    aborting = inv.aborting;
+    rising = inv.rising;
+    sums = inv.sums;
+    truthful = λ told. record { agreeing = inv.agrees told; replied = inv.replies told; due = inv.due told };
+  }
+
+  -- the invariant of a board, by its own parts and those that are over the plain board
+  whole : (b : BoardState) (after : PlainBoard) → plain b ≡ after → HasOwnParts shown b → HasParts shown procedure truth after
+      → BoardInvariant shown procedure truth b
+  whole b after is own parts =
+      let has = subst (HasParts shown procedure truth) (sym is) parts in
+      record {
+        ruled = own.ruled;
+        limits = own.limits;
+        replays = own.replays;
+        numbering = own.numbering;
+        stopped = own.stopped;
+        ranged = has.ranged;
+        taken = has.taken;
+        asked = has.asked;
+        aborting = has.aborting;
+        rising = has.rising;
+        sums = has.sums;
+        agrees = λ told. (has.truthful told).agreeing;
+        replies = λ told. (has.truthful told).replied;
+        due = λ told. (has.truthful told).due;
+      }
+
   -- a board after a step: the plain board that it is, and its invariant
   pub record IsStep (b : BoardState) (after : PlainBoard) : Type 0 where
     pub plain_is : plain b ≡ after
-    pub kept : BoardInvariant shown b
+    pub kept : BoardInvariant shown procedure truth b
 
   -- the opening board
-  pub step-opening : (problem : Problem) → IsStep (opening-state problem) (opening problem)
+  pub step-opening : (problem : Problem) → AreRules problem.rules → IsStep (opening-state problem) (opening problem)
   unfolding plain
-  step-opening problem =
+  step-opening problem ruled =
       let opened : plain (opening-state problem) ≡ opening problem = λ i. record (opening problem) { known = λ config place. nothing-known place i } in
       record {
         plain_is = opened;
-        kept = record {
+        kept = whole _ (opening problem) opened (record {
+          ruled = ruled;
           limits = refl;
           replays = opened ∙ opening-replayed shown problem;
           numbering = record {
@@ -107,19 +157,20 @@ module _ (shown : Rules → List Reply → View) where
             places = All-nil (HasPlace (has_place_in (opening-state problem).cache));
           };
           stopped = record { marked = λ is. All-nil IsMarked };
-        };
+        }) (parts-opening shown procedure truth problem);
       }
 
   -- the cache has further places
   pub step-places : (b : BoardState) (cache : Cached) → cache.limits ≡ b.cache.limits → known_in cache ≡ known_in b.cache → cache.conflicts ≡ b.cache.conflicts
       → ((config : List ℕ) (place : ℕ) → IsTrue (has_place_in b.cache config place) → IsTrue (has_place_in cache config place))
-      → BoardInvariant shown b → IsStep (record b { cache = cache }) (plain b)
+      → BoardInvariant shown procedure truth b → IsStep (record b { cache = cache }) (plain b)
   unfolding plain
   step-places b cache limits known conflicts places inv =
       let same : plain (record b { cache = cache }) ≡ plain b = λ i. record (plain b) { known = known i; conflicts = conflicts i } in
       record {
         plain_is = same;
-        kept = record {
+        kept = whole _ (plain b) same (record {
+          ruled = inv.ruled;
           limits = limits ∙ inv.limits;
           replays = same ∙ inv.replays;
           numbering = record {
@@ -128,21 +179,23 @@ module _ (shown : Rules → List Reply → View) where
             places = All-weaker (HasPlace (has_place_in b.cache)) (HasPlace (has_place_in cache)) (λ t has. places t.cell.config t.cell.place has) (tickets_of b.live) inv.numbering.places;
           };
           stopped = record { marked = inv.stopped.marked };
-        };
+        }) (parts-of b inv);
       }
 
   -- the search is answered
-  pub step-reply : (b : BoardState) (r : Reply) (wishes : List Wish) → phase_of shown (plain b) ≡ phase.Open (verdict.Reply r)
+  pub step-reply : ((rules : Rules) (T : Table) → AreRules rules → Follows (shown rules) (sums_under rules T) (procedure rules T))
+      → (b : BoardState) (r : Reply) (wishes : List Wish) → phase_of shown (plain b) ≡ phase.Open (verdict.Reply r)
       → wishes ≡ wishes_on shown (record (plain b) { replies = b.replies ++ r ∷ [] })
-      → All (λ w. IsRunnable b.problem.rules w.cell w.cutoff.0) wishes → BoardInvariant shown b
+      → All (λ w. IsRunnable b.problem.rules w.cell w.cutoff.0) wishes → BoardInvariant shown procedure truth b
       → IsStep (record b { replies = b.replies ++ r ∷ []; wishes = wishes; journal = b.journal ++ event.Advance ∷ [] }) (with_reply shown (plain b) r)
   unfolding plain with_reply
-  step-reply b r wishes stands wished runnable inv =
+  step-reply follows b r wishes stands wished runnable inv =
       let is : plain (record b { replies = b.replies ++ r ∷ []; wishes = wishes; journal = b.journal ++ event.Advance ∷ [] }) ≡ with_reply shown (plain b) r =
       λ i. record (with_reply shown (plain b) r) { wishes = wished i } in
       record {
         plain_is = is;
-        kept = record {
+        kept = whole _ (with_reply shown (plain b) r) is (record {
+          ruled = inv.ruled;
           limits = inv.limits;
           replays = is ∙ replayed-reply shown (plain b) r stands inv.replays;
           numbering = record {
@@ -151,13 +204,13 @@ module _ (shown : Rules → List Reply → View) where
             places = inv.numbering.places;
           };
           stopped = record { marked = inv.stopped.marked };
-        };
+        }) (parts-reply shown procedure truth follows (plain b) r stands inv.ruled (parts-of b inv));
       }
 
   -- there are other wishes
   pub step-wishes : (b : BoardState) (place : ℕ) (cutoff : Micros) (wishes : List Wish) → phase_of shown (plain b) ≡ phase.Open (verdict.Need place cutoff)
       → wishes ≡ wishes_on shown (plain b) → pointwise same_wish b.wishes wishes ≡ false
-      → All (λ w. IsRunnable b.problem.rules w.cell w.cutoff.0) wishes → BoardInvariant shown b
+      → All (λ w. IsRunnable b.problem.rules w.cell w.cutoff.0) wishes → BoardInvariant shown procedure truth b
       → IsStep (record b { wishes = wishes; journal = b.journal ++ event.Advance ∷ [] }) (with_wishes shown (plain b))
   unfolding plain with_wishes
   step-wishes b place cutoff wishes stands wished other runnable inv =
@@ -168,7 +221,8 @@ module _ (shown : Rules → List Reply → View) where
       let is = other_wishes ∙ sym changed in
       record {
         plain_is = is;
-        kept = record {
+        kept = whole _ (with_wishes shown (plain b)) is (record {
+          ruled = inv.ruled;
           limits = inv.limits;
           replays = replayed-wishes shown (plain b) (plain (record b { wishes = wishes; journal = b.journal ++ event.Advance ∷ [] })) place cutoff stands (sym is) refl refl inv.replays;
           numbering = record {
@@ -177,12 +231,12 @@ module _ (shown : Rules → List Reply → View) where
             places = inv.numbering.places;
           };
           stopped = record { marked = inv.stopped.marked };
-        };
+        }) (parts-wishes shown procedure truth (plain b) place cutoff stands (parts-of b inv));
       }
 
   -- the walk of the present ask came to an abort
   pub step-abort : (b : BoardState) (place : ℕ) (cell : Cell) → phase_of shown (plain b) ≡ phase.Open (verdict.Aborted place)
-      → cell ≡ asked_cell shown (plain b) place → BoardInvariant shown b
+      → cell ≡ asked_cell shown (plain b) place → BoardInvariant shown procedure truth b
       → IsStep (record b { aborted = Some cell; wishes = []; journal = b.journal ++ event.Advance ∷ [] }) (with_abort shown (plain b) place)
   unfolding plain with_abort
   step-abort b place cell stands cell_is inv =
@@ -190,7 +244,8 @@ module _ (shown : Rules → List Reply → View) where
       λ i. record (with_abort shown (plain b) place) { aborted = Some (cell_is i) } in
       record {
         plain_is = is;
-        kept = record {
+        kept = whole _ (with_abort shown (plain b) place) is (record {
+          ruled = inv.ruled;
           limits = inv.limits;
           replays = is ∙ replayed-abort shown (plain b) place stands inv.replays;
           numbering = record {
@@ -199,21 +254,23 @@ module _ (shown : Rules → List Reply → View) where
             places = inv.numbering.places;
           };
           stopped = record { marked = inv.stopped.marked };
-        };
+        }) (parts-abort shown procedure truth (plain b) place stands inv.replays (parts-of b inv));
       }
 
   -- a ticket is taken, for a cell that has a place and no live ticket
-  pub step-take : (b : BoardState) (t : Ticket) → taken_on shown (plain b) ≡ taken.Ticket t → b.stopped ≡ false → t.number ≡ b.next
+  pub step-take : ((rules : Rules) (T : Table) → AreRules rules → Follows (shown rules) (sums_under rules T) (procedure rules T))
+      → (b : BoardState) (t : Ticket) → taken_on shown (plain b) ≡ taken.Ticket t → b.stopped ≡ false → t.number ≡ b.next
       → t.run.key ≡ key_of b.problem t.cell → IsRunnable b.problem.rules t.cell t.run.cutoff.0 → has_ticket b.live t.cell ≡ false
-      → IsTrue (has_place_in b.cache t.cell.config t.cell.place) → BoardInvariant shown b
+      → IsTrue (has_place_in b.cache t.cell.config t.cell.place) → BoardInvariant shown procedure truth b
       → IsStep (record b { live = b.live ++ unmarked t ∷ []; next = suc b.next; journal = b.journal ++ take_event t ∷ [] }) (with_ticket (plain b) t)
   unfolding plain
-  step-take b t offered running number key runnable alone has_place inv =
+  step-take follows b t offered running number key runnable alone has_place inv =
       let n = inv.numbering.numbers in
       let ticket : IsTicket b.problem (suc b.next) t = record { first = omega (arith, number, n.first); below = omega (arith, number); key = key; runnable = runnable } in
       record {
         plain_is = refl;
-        kept = record {
+        kept = whole _ (with_ticket (plain b) t) refl (record {
+          ruled = inv.ruled;
           limits = inv.limits;
           replays = replayed-take shown (plain b) t offered inv.replays;
           numbering = record {
@@ -222,19 +279,19 @@ module _ (shown : Rules → List Reply → View) where
             places = rw (tickets-push b.live t) (All-push (HasPlace (has_place_in b.cache)) (tickets_of b.live) t inv.numbering.places has_place);
           };
           stopped = record { marked = λ is. absurd (let e : true ≡ false = sym is ∙ running in cc) };
-        };
+        }) (parts-ticket shown procedure truth follows (plain b) t offered number inv.ruled n (parts-of b inv));
       }
 
   -- the answer of a live ticket is learnt
-  pub step-answer : (b : BoardState) (cache : Cached) (answer : Answer) (l : LiveTicket) → live_at b.live l.ticket.number ≡ Some l
+  pub step-answer : (b : BoardState) (cache : Cached) (answer : Answer) (l : LiveTicket) → live_at b.live l.ticket.number ≡ Some l → IsWithin answer l.ticket.run.cutoff.0 → IsTold truth l.ticket answer
       → cache.limits ≡ b.cache.limits
       → known_in cache ≡ known_after (known_in b.cache) l.ticket.cell (lesson_in b.cache l.ticket.cell l.ticket.run.cutoff.0 answer).known
       → cache.conflicts ≡ conflicts_after b.cache.conflicts (lesson_in b.cache l.ticket.cell l.ticket.run.cutoff.0 answer).conflict
-      → has_place_in cache ≡ has_place_in b.cache → BoardInvariant shown b
+      → has_place_in cache ≡ has_place_in b.cache → BoardInvariant shown procedure truth b
       → IsStep (record b { cache = cache; live = without b.live l.ticket.number; journal = b.journal ++ event.Record l.ticket.number answer ∷ [] })
       (with_answer (plain b) answer l)
   unfolding plain with_answer known_from is_conflict
-  step-answer b cache answer l found limits known conflicts places inv =
+  step-answer b cache answer l found within told limits known conflicts places inv =
       let n = l.ticket.number in
       let before = known_of b.cache l.ticket.cell in
       let cutoff = l.ticket.run.cutoff.0 in
@@ -245,7 +302,8 @@ module _ (shown : Rules → List Reply → View) where
       let Q : (List ℕ → ℕ → Bool) → Type 0 = λ has_place. All (HasPlace has_place) (tickets_of (without b.live n)) in
       record {
         plain_is = is;
-        kept = record {
+        kept = whole _ (with_answer (plain b) answer l) is (record {
+          ruled = inv.ruled;
           limits = limits ∙ inv.limits;
           replays = is ∙ replayed-answer shown (plain b) answer l found inv.replays;
           numbering = record {
@@ -254,11 +312,11 @@ module _ (shown : Rules → List Reply → View) where
             places = subst Q (sym places) (all-without (HasPlace (has_place_in b.cache)) b.live n inv.numbering.places);
           };
           stopped = record { marked = λ is. live-without IsMarked b.live n (inv.stopped.marked is) };
-        };
+        }) (parts-answer shown procedure truth (plain b) answer l found within told inv.numbering.numbers (parts-of b inv));
       }
 
   -- the run of a live ticket can't be made
-  pub step-loss : (b : BoardState) (l : LiveTicket) → live_at b.live l.ticket.number ≡ Some l → BoardInvariant shown b
+  pub step-loss : (b : BoardState) (l : LiveTicket) → live_at b.live l.ticket.number ≡ Some l → BoardInvariant shown procedure truth b
       → IsStep (record b { live = without b.live l.ticket.number; shunned = shunned_after b.shunned l.ticket; journal = b.journal ++ event.Lost l.ticket.number ∷ [] })
       (with_loss (plain b) l)
   unfolding plain with_loss
@@ -266,7 +324,8 @@ module _ (shown : Rules → List Reply → View) where
       let n = l.ticket.number in
       record {
         plain_is = refl;
-        kept = record {
+        kept = whole _ (with_loss (plain b) l) refl (record {
+          ruled = inv.ruled;
           limits = inv.limits;
           replays = replayed-loss shown (plain b) l found inv.replays;
           numbering = record {
@@ -275,18 +334,19 @@ module _ (shown : Rules → List Reply → View) where
             places = all-without (HasPlace (has_place_in b.cache)) b.live n inv.numbering.places;
           };
           stopped = record { marked = λ is. live-without IsMarked b.live n (inv.stopped.marked is) };
-        };
+        }) (parts-loss shown procedure truth (plain b) l (parts-of b inv));
       }
 
   -- the run of a live ticket is given up
-  pub step-kill : (b : BoardState) (l : LiveTicket) → live_at b.live l.ticket.number ≡ Some l → BoardInvariant shown b
+  pub step-kill : (b : BoardState) (l : LiveTicket) → live_at b.live l.ticket.number ≡ Some l → BoardInvariant shown procedure truth b
       → IsStep (record b { live = without b.live l.ticket.number; journal = b.journal ++ event.Killed l.ticket.number ∷ [] }) (with_kill (plain b) l)
   unfolding plain with_kill
   step-kill b l found inv =
       let n = l.ticket.number in
       record {
         plain_is = refl;
-        kept = record {
+        kept = whole _ (with_kill (plain b) l) refl (record {
+          ruled = inv.ruled;
           limits = inv.limits;
           replays = replayed-kill shown (plain b) l found inv.replays;
           numbering = record {
@@ -295,11 +355,11 @@ module _ (shown : Rules → List Reply → View) where
             places = all-without (HasPlace (has_place_in b.cache)) b.live n inv.numbering.places;
           };
           stopped = record { marked = λ is. live-without IsMarked b.live n (inv.stopped.marked is) };
-        };
+        }) (parts-kill shown procedure truth (plain b) l (parts-of b inv));
       }
 
   -- live tickets are marked
-  pub step-marks : (b : BoardState) (p : LiveTicket → Bool) → BoardInvariant shown b
+  pub step-marks : (b : BoardState) (p : LiveTicket → Bool) → BoardInvariant shown procedure truth b
       → IsStep (record b { live = map (marked_if p) b.live; journal = b.journal ++ mark_events p b.live }) (marked_board (plain b) p)
   unfolding plain
   step-marks b p inv =
@@ -307,7 +367,8 @@ module _ (shown : Rules → List Reply → View) where
       let own : HaveOwnNumbers b.live = λ number. omega (arith, n.once number) in
       record {
         plain_is = refl;
-        kept = record {
+        kept = whole _ (marked_board (plain b) p) refl (record {
+          ruled = inv.ruled;
           limits = inv.limits;
           replays = replayed-marks shown (plain b) p own inv.replays;
           numbering = record {
@@ -316,16 +377,17 @@ module _ (shown : Rules → List Reply → View) where
             places = rw (tickets-marked_if p b.live) inv.numbering.places;
           };
           stopped = record { marked = λ is. All-map IsMarked (marked_if p) b.live (All-weaker IsMarked (λ l. IsMarked (marked_if p l)) (marked-stays p) b.live (inv.stopped.marked is)) };
-        };
+        }) (parts-marks shown procedure truth (plain b) p (parts-of b inv));
       }
 
   -- a board is stopped
-  pub step-stop : (b : BoardState) → b.stopped ≡ false → BoardInvariant shown b
+  pub step-stop : (b : BoardState) → b.stopped ≡ false → BoardInvariant shown procedure truth b
       → IsStep (record b { live = map marked b.live; stopped = true; journal = b.journal ++ event.Stop ∷ [] }) (stopped_board (plain b))
   unfolding plain
   step-stop b running inv = record {
     plain_is = refl;
-    kept = record {
+    kept = whole _ (stopped_board (plain b)) refl (record {
+      ruled = inv.ruled;
       limits = inv.limits;
       replays = replayed-stop shown (plain b) running inv.replays;
       numbering = record {
@@ -334,16 +396,17 @@ module _ (shown : Rules → List Reply → View) where
         places = rw (tickets-marked b.live) inv.numbering.places;
       };
       stopped = record { marked = λ is. all-marked b.live };
-    };
+    }) (parts-stop shown procedure truth (plain b) (parts-of b inv));
   }
 
   -- a board goes on
-  pub step-resume : (b : BoardState) → (b.stopped || nat_lt 0 (length b.live)) ≡ true → BoardInvariant shown b
+  pub step-resume : (b : BoardState) → (b.stopped || nat_lt 0 (length b.live)) ≡ true → BoardInvariant shown procedure truth b
       → IsStep (record b { live = []; stopped = false; journal = b.journal ++ event.Resume ∷ [] }) (resumed_board (plain b))
   unfolding plain
   step-resume b halted inv = record {
     plain_is = refl;
-    kept = record {
+    kept = whole _ (resumed_board (plain b)) refl (record {
+      ruled = inv.ruled;
       limits = inv.limits;
       replays = replayed-resume shown (plain b) halted inv.replays;
       numbering = record {
@@ -352,5 +415,5 @@ module _ (shown : Rules → List Reply → View) where
         places = All-nil (HasPlace (has_place_in b.cache));
       };
       stopped = record { marked = λ is. All-nil IsMarked };
-    };
+    }) (parts-resume shown procedure truth (plain b) (parts-of b inv));
   }

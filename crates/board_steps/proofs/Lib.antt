@@ -6,7 +6,6 @@ pub mod LiveTickets
 pub mod Replayed
 pub mod MarkedTickets
 pub mod SameTickets
-pub mod KeptBoards
 pub mod JournalRuns
 pub mod AgreeingBoards
 pub mod GivenTickets
@@ -21,4 +20,8 @@ pub mod DueTickets
 mod EarlierEntries
 pub mod ShownEntries
 pub mod TruthfulBoards
+pub mod RangedBoards
+pub mod KeptParts
+pub mod KeptBoards
+pub mod ToldEntries
 pub mod KeptKnowledge

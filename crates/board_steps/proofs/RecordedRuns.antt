@@ -18,38 +18,17 @@ use Rattle.run_cache.proofs.FurtherRuns.{rising_more, backed_more}
 use Rattle.capping.specs.Decisions.{after_run}
 use Rattle.capping.proofs.OtherCells.{run-aside}
 use Rattle.board_steps.specs.declared.events.Event.{Event}
-use Rattle.board_steps.specs.declared.events.Event.TheVariants.{Advance, Take, Record, Lost, Mark, Killed, Stop, Resume}
+use Rattle.board_steps.specs.declared.events.Event.TheVariants.{Record, Mark}
 use Rattle.board_steps.specs.declared.tickets.Kind.TheVariants.{Asked}
 use Rattle.board_steps.specs.declared.tickets.LiveTicket.{LiveTicket}
 use Rattle.board_steps.specs.declared.tickets.Ticket.{Ticket}
 use Rattle.board_steps.specs.Ledgers.{take_event}
 use Rattle.board_steps.specs.Numbering.{tickets_of}
 use Rattle.board_steps.specs.Tickets.{same_cell, has_number, live_at, place_of, without, mark_event, mark_events}
-use Rattle.board_steps.proofs.JournalRuns.{runs_of, recorded_in, run_of, runs-other, runs-marks, of-live}
+use Rattle.board_steps.specs.JournalRuns.{runs_of, recorded_in, run_of}
+use Rattle.board_steps.specs.RecordedRuns.{IsAskedTake, IsUnsettled, AreRecorded}
+use Rattle.board_steps.proofs.JournalRuns.{runs-other, runs-marks, of-live}
 use Rattle.board_steps.proofs.LiveTickets.{tickets-without, all-without}
-
--- a ticket that an event takes is asked for
-abbrev pub IsAskedTake : Event → Type 0
-IsAskedTake Advance = Unit {0}
-IsAskedTake (Take number kind cell cutoff asked_at) = kind ≡ Asked
-IsAskedTake (Record number answer) = Unit {0}
-IsAskedTake (Lost number) = Unit {0}
-IsAskedTake (Mark number) = Unit {0}
-IsAskedTake (Killed number) = Unit {0}
-IsAskedTake Stop = Unit {0}
-IsAskedTake Resume = Unit {0}
-
--- the ticket's run tells more than what is known of its cell
-abbrev pub IsUnsettled : Knowledge → Ticket → Type 0
-IsUnsettled known t = is_settled (known t.cell.config t.cell.place) t.run.cutoff.0 ≡ false
-
--- the runs that a journal records are rising, what is known comes of them, the tickets' runs tell more, and a single
--- worker's are all asked for
-pub record AreRecorded (rules : Rules) (known : Knowledge) (tickets : List Ticket) (journal : List Event) : Type 0 where
-  pub rising : IsRising (runs_of journal)
-  pub backed : IsBacked rules.limits (runs_of journal) known
-  pub unsettled : All (IsUnsettled known) tickets
-  pub asked : rules.workers ≡ 1 → All IsAskedTake journal
 
 -- one more event that records no run, and takes no ticket ahead
 pub recorded-other : (rules : Rules) (known : Knowledge) (tickets : List Ticket) (journal : List Event) (e : Event) → recorded_in journal e ≡ [] → IsAskedTake e

@@ -7,7 +7,6 @@ use Rattle.objective.specs.Costs.{Table}
 use Rattle.objective.specs.declared.Answer.{Answer}
 use Rattle.objective.specs.declared.Outcome.{Outcome}
 use Rattle.wrapper_lines.specs.declared.runs.Key.{Key}
-use Rattle.uncapped.specs.Procedure.{Sums}
 use Rattle.uncapped.specs.Totals.{total_cost, quiet}
 use Rattle.uncapped.specs.Uncapped.{Run}
 use Rattle.ils_face.specs.declared.asks.Ask.{Ask}
@@ -15,7 +14,7 @@ use Rattle.ils_face.specs.declared.asks.Ask.TheVariants.{Full, Versus, End}
 use Rattle.ils_face.specs.declared.asks.Reply.{Reply}
 use Rattle.ils_face.specs.Follows.{Follows, sums_under}
 use Rattle.ils_face.specs.Rules.{Rules, AreRules}
-use Rattle.ils_face.specs.Traces.{question_of, IsReplyBy, IsTraced}
+use Rattle.ils_face.specs.Traces.{question_of, IsReplyBy}
 use Rattle.ils_face.specs.Views.{View}
 use Rattle.ils_face.proofs.Traces.{asked_next, traced_first, traced_on}
 use Rattle.run_cache.specs.Caches.{Knowledge}
@@ -34,20 +33,9 @@ use Rattle.board_steps.specs.Phases.{ask_on, verdict_on, phase_of, wishes_on}
 use Rattle.board_steps.specs.Problem.{Problem}
 use Rattle.board_steps.specs.ProblemRuns.{table_of}
 use Rattle.board_steps.specs.Steps.{with_ticket, with_answer, with_loss, with_kill, with_reply, with_wishes, with_abort, same_wish, marked_board, stopped_board, resumed_board}
-use Rattle.board_steps.proofs.AgreeingBoards.{IsAgreeing}
+use Rattle.board_steps.specs.AgreeingBoards.{IsAgreeing}
+use Rattle.board_steps.specs.RepliedAsks.{quiet_sums, quiet_by, AreReplied}
 use Rattle.board_steps.proofs.GivenTickets.{verdict-open}
-
--- the total costs of a problem, where each abort counts as unsolved
-abbrev pub quiet_sums : Option (Key → Outcome) → Problem → Sums
-quiet_sums truth problem = sums_under problem.rules (quiet (table_of truth problem))
-
--- the run of a procedure over the same
-abbrev pub quiet_by : (Rules → Table → Run) → Option (Key → Outcome) → Problem → Run
-quiet_by plain truth problem = plain problem.rules (quiet (table_of truth problem))
-
--- the replies are those to the first asks of the procedure
-pub record AreReplied (plain : Rules → Table → Run) (truth : Option (Key → Outcome)) (b : PlainBoard) : Type 0 where
-  pub traced : IsTraced (quiet_sums truth b.problem) (quiet_by plain truth b.problem) b.replies
 
 -- ---- what a verdict replies
 

@@ -40,16 +40,13 @@ use Rattle.board_steps.specs.Phases.{config_of, ask_on, verdict_on, asked_cell, 
 use Rattle.board_steps.specs.Problem.{Problem}
 use Rattle.board_steps.specs.Steps.{same_wish, ticket_for, is_free, known_from, with_ticket, with_answer, with_loss, with_kill, marked_board, with_reply, with_wishes, with_abort, taken_on, stopped_board, resumed_board}
 use Rattle.board_steps.specs.Tickets.{same_cell, has_ticket, has_cell, live_at, without}
+use Rattle.board_steps.specs.JournalRuns.{AreTaken}
+use Rattle.board_steps.specs.RecordedRuns.{IsAskedTake, IsUnsettled, AreRising}
 use Rattle.board_steps.proofs.GivenTickets.{verdict-open, IsNeededTicket, IsAheadTicket, given}
-use Rattle.board_steps.proofs.JournalRuns.{AreTaken, runs-answer}
+use Rattle.board_steps.proofs.JournalRuns.{runs-answer}
 use Rattle.board_steps.proofs.LiveTickets.{tickets-marked, tickets-marked_if, tickets-push, all-without}
 use Rattle.board_steps.proofs.Ranges.{and-right}
-use Rattle.board_steps.proofs.RecordedRuns.{IsAskedTake, IsUnsettled, AreRecorded, recorded-other, recorded-tickets, recorded-marks, recorded-take, recorded-answer}
-
--- the runs that a board records, and its live tickets; a single worker has no wishes
-pub record AreRising (b : PlainBoard) : Type 0 where
-  pub runs : AreRecorded b.problem.rules b.known (tickets_of b.live) b.journal
-  pub wishes : b.problem.rules.workers ≡ 1 → b.wishes ≡ []
+use Rattle.board_steps.proofs.RecordedRuns.{recorded-other, recorded-tickets, recorded-marks, recorded-take, recorded-answer}
 
 -- ---- tickets
 

@@ -36,33 +36,11 @@ use Rattle.board_steps.specs.Boards.{PlainBoard}
 use Rattle.board_steps.specs.Phases.{config_of, ask_on}
 use Rattle.board_steps.specs.Problem.{Problem}
 use Rattle.board_steps.specs.ProblemRuns.{table_of}
-use Rattle.board_steps.proofs.AgreeingBoards.{IsAgreeing}
+use Rattle.board_steps.specs.AgreeingBoards.{IsAgreeing}
+use Rattle.board_steps.specs.RepliedAsks.{quiet_sums, quiet_by, AreReplied}
+use Rattle.board_steps.specs.ShownEntries.{true_by, IsAnsweredAt, ShowsAll, ShowsAborted}
 use Rattle.board_steps.proofs.EarlierEntries.{shorter_first, fewer_before}
-use Rattle.board_steps.proofs.RepliedAsks.{quiet_sums, quiet_by, AreReplied, quiet-follows, present-ask}
-
--- ---- definitions
-
--- the run of a procedure over a problem's truth
-abbrev pub true_by : (Rules → Table → Run) → Option (Key → Outcome) → Problem → Run
-true_by plain truth problem = plain problem.rules (table_of truth problem)
-
--- the reply at a place is that of the total cost that the question asks for
-pub record IsAnsweredAt (sums : Sums) (replies : List Reply) (place : ℕ) (q : Question) : Type 0 where
-  pub reply : slice_get replies place ≡ Some (reply_to sums q)
-
--- all entries of the procedure where each abort counts as unsolved are shown, and its last line; the first ones are those of
--- the procedure itself, which comes to the same where it finishes
-pub record ShowsAll (view : View) (run whole : Run) : Type 0 where
-  pub final : IsFinal view whole
-  pub first : Grows (entries_of run) view.entries
-  pub same : run.end ≡ Finished → IsFinal view run
-
--- the procedure is aborted, its entries are the first ones of those that are shown, and these are the first ones of the
--- procedure where each abort counts as unsolved
-pub record ShowsAborted (view : View) (run whole : Run) : Type 0 where
-  pub aborted : run.end ≡ Aborted
-  pub first : Grows (entries_of run) view.entries
-  pub shown : Grows view.entries (entries_of whole)
+use Rattle.board_steps.proofs.RepliedAsks.{quiet-follows, present-ask}
 
 -- ---- runs that are cut at an ask
 

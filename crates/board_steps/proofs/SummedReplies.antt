@@ -1,6 +1,5 @@
 -- The replies of a search so far that are sums: the costs that they sum are known.
 use Rattle.std.proofs.Common.{ℕ, zero, suc, ◌≡◌, ◌≤◌, ◌++◌, ◌⊎◌, Bool, true, false, List, [], ◌∷◌, Some, None, length, take, refl, sym, ap, subst, ◌∙◌, inl, inr, arith, if◌then◌else◌}
-use Rattle.std.specs.Prelude.{IsSomeAnd}
 use Rattle.std.specs.List.{slice_get}
 use Rattle.std.specs.Cmp.Lexicographic.{pointwise}
 use Rattle.std.proofs.lemmas.List.{take_all, take-append-le}
@@ -8,13 +7,11 @@ use Rattle.std.proofs.lemmas.Option.{none-some, same_Some, slice_get_within}
 use Rattle.objective.specs.Bounds.{Bounds}
 use Rattle.objective.specs.declared.Answer.{Answer}
 use Rattle.objective.specs.declared.Sum.{Sum}
-use Rattle.uncapped.specs.Procedure.{Question}
 use Rattle.ils_face.specs.declared.asks.Ask.{Ask}
 use Rattle.ils_face.specs.declared.asks.Ask.TheVariants.{Full, Versus, End}
 use Rattle.ils_face.specs.declared.asks.Reply.{Reply}
 use Rattle.ils_face.specs.declared.asks.Reply.TheVariants.{Exact, Exceeds}
 use Rattle.ils_face.specs.Rules.{Rules}
-use Rattle.ils_face.specs.Traces.{question_of}
 use Rattle.ils_face.specs.Views.{View}
 use Rattle.run_cache.specs.declared.cell.Cell.{Cell}
 use Rattle.run_cache.specs.declared.known.Known.{Known}
@@ -23,7 +20,8 @@ use Rattle.run_cache.specs.Caches.{Knowledge}
 use Rattle.capping.specs.declared.verdicts.Verdict.TheVariants as verdict
 use Rattle.capping.specs.Verdicts.{verdict_of}
 use Rattle.capping.specs.Decisions.{after_run}
-use Rattle.capping.proofs.ExactSums.{exact_cost, exact_sum, exact_sum-same, exact_below}
+use Rattle.capping.specs.ExactSums.{exact_cost, exact_sum}
+use Rattle.capping.proofs.ExactSums.{exact_sum-same, exact_below}
 use Rattle.capping.proofs.WalkEnds.{IsEnd, walk_end}
 use Rattle.capping.proofs.OtherCells.{IsKept, run-kept}
 use Rattle.board_steps.specs.declared.answers.Phase.TheVariants as phase
@@ -34,28 +32,8 @@ use Rattle.board_steps.specs.Boards.{PlainBoard, opening}
 use Rattle.board_steps.specs.Phases.{ask_on, verdict_on, phase_of, wishes_on}
 use Rattle.board_steps.specs.Problem.{Problem}
 use Rattle.board_steps.specs.Steps.{same_wish, with_ticket, known_from, with_answer, with_loss, with_kill, marked_board, with_reply, with_wishes, with_abort, stopped_board, resumed_board}
+use Rattle.board_steps.specs.SummedReplies.{IsSummed, ask_after, AreSummedReplies, AreSummed}
 use Rattle.board_steps.proofs.GivenTickets.{verdict-open}
-
--- the costs at the places of the question are known, and this is their sum
-pub record IsSum (known : Knowledge) (sum : ℕ) (q : Question) : Type 0 where
-  pub same : exact_sum (known q.config) q.places ≡ Some sum
-
--- a total cost that an ask is replied is the sum of known costs
-abbrev pub IsSummed : Knowledge → Ask → Reply → Type 0
-IsSummed known ask (Exact sum) = IsSomeAnd (question_of ask) (IsSum known sum.0)
-IsSummed known ask Exceeds = Unit {0}
-
--- the ask that is shown after the first replies, so many
-abbrev pub ask_after : (List Reply → View) → List Reply → ℕ → Ask
-ask_after shown replies i = (shown (take i replies)).ask
-
--- each reply so far, to the ask that is shown after those before it
-pub record AreSummedReplies (shown : List Reply → View) (known : Knowledge) (replies : List Reply) : Type 0 where
-  pub each : (i : ℕ) (r : Reply) → slice_get replies i ≡ Some r → IsSummed known (ask_after shown replies i) r
-
--- each total cost that the search of a board was replied is the sum of costs that are known
-pub record AreSummed (shown : Rules → List Reply → View) (b : PlainBoard) : Type 0 where
-  pub replies : AreSummedReplies (shown b.problem.rules) b.known b.replies
 
 -- ---- a further reply
 

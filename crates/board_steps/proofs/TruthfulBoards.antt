@@ -18,19 +18,23 @@ use Rattle.board_steps.specs.declared.answers.Phase.TheVariants as phase
 use Rattle.board_steps.specs.declared.answers.Taken.TheVariants as taken
 use Rattle.board_steps.specs.declared.tickets.LiveTicket.{LiveTicket}
 use Rattle.board_steps.specs.declared.tickets.Ticket.{Ticket}
+use Rattle.board_steps.specs.AbortedCells.{IsAborting}
+use Rattle.board_steps.specs.AgreeingBoards.{IsAgreeing}
 use Rattle.board_steps.specs.Boards.{PlainBoard, opening}
+use Rattle.board_steps.specs.DueTickets.{AreDueTickets}
+use Rattle.board_steps.specs.JournalRuns.{AreTaken}
 use Rattle.board_steps.specs.Numbering.{AreNumbered, tickets_of}
 use Rattle.board_steps.specs.Phases.{phase_of}
 use Rattle.board_steps.specs.Problem.{Problem}
 use Rattle.board_steps.specs.ProblemRuns.{told_outcome}
+use Rattle.board_steps.specs.RepliedAsks.{AreReplied, quiet_by}
+use Rattle.board_steps.specs.ShownEntries.{ShowsAborted, true_by}
 use Rattle.board_steps.specs.Steps.{taken_on, with_ticket, with_answer, with_loss, with_kill, with_reply, with_wishes, with_abort, marked_board, stopped_board, resumed_board}
 use Rattle.board_steps.specs.Tickets.{live_at}
-use Rattle.board_steps.proofs.AbortedBoards.{IsAborting}
-use Rattle.board_steps.proofs.AgreeingBoards.{IsAgreeing, agreeing-opening, agreeing-ticket, agreeing-answer, agreeing-loss, agreeing-kill, agreeing-marks, agreeing-stop, agreeing-resume, agreeing-reply, agreeing-abort, agreeing-wishes}
-use Rattle.board_steps.proofs.DueTickets.{AreDueTickets, due-opening, due-ticket, due-answer, due-loss, due-kill, due-marks, due-stop, due-resume, due-reply, due-abort, due-wishes}
-use Rattle.board_steps.proofs.JournalRuns.{AreTaken}
-use Rattle.board_steps.proofs.RepliedAsks.{AreReplied, quiet_by, replied-opening, replied-ticket, replied-answer, replied-loss, replied-kill, replied-marks, replied-stop, replied-resume, replied-reply, replied-abort, replied-wishes}
-use Rattle.board_steps.proofs.ShownEntries.{ShowsAborted, true_by, aborted-entries-shown}
+use Rattle.board_steps.proofs.AgreeingBoards.{agreeing-opening, agreeing-ticket, agreeing-answer, agreeing-loss, agreeing-kill, agreeing-marks, agreeing-stop, agreeing-resume, agreeing-reply, agreeing-abort, agreeing-wishes}
+use Rattle.board_steps.proofs.DueTickets.{due-opening, due-ticket, due-answer, due-loss, due-kill, due-marks, due-stop, due-resume, due-reply, due-abort, due-wishes}
+use Rattle.board_steps.proofs.RepliedAsks.{replied-opening, replied-ticket, replied-answer, replied-loss, replied-kill, replied-marks, replied-stop, replied-resume, replied-reply, replied-abort, replied-wishes}
+use Rattle.board_steps.proofs.ShownEntries.{aborted-entries-shown}
 
 -- what is known agrees with the truth, the replies are those of the procedure over it, each abort as unsolved, and the runs
 -- that were asked for are due there

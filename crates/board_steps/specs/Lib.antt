@@ -7,5 +7,15 @@ pub mod Phases
 pub mod Steps
 pub mod Replays
 pub mod Numbering
+pub mod JournalRuns
+pub mod AskedTickets
+pub mod AbortedCells
+pub mod RangedBoards
+pub mod RecordedRuns
+pub mod SummedReplies
+pub mod AgreeingBoards
+pub mod RepliedAsks
+pub mod DueTickets
+pub mod ShownEntries
 pub mod BoardInvariant
 pub mod KeptKnowledge

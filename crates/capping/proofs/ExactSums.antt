@@ -16,18 +16,7 @@ use Rattle.ils_face.proofs.QuietTables.{quiet_total}
 use Rattle.run_cache.specs.declared.known.Known.{Known}
 use Rattle.run_cache.specs.declared.known.Known.TheVariants.{Nothing, Over, Exact, Abort}
 use Rattle.run_cache.specs.Knowledge.{Agrees}
-
--- the cost that is known exactly
-abbrev pub exact_cost : Known → Option ℕ
-exact_cost Nothing = None
-exact_cost (Over time) = None
-exact_cost (Exact cost) = Some cost.0
-exact_cost Abort = None
-
--- the sum of the costs at the places 1 to n, where each is known exactly
-abbrev pub exact_sum : (ℕ → Known) → ℕ → Option ℕ
-exact_sum known zero = Some 0
-exact_sum known (suc n) = plus (exact_sum known n) (exact_cost (known (suc n)))
+use Rattle.capping.specs.ExactSums.{exact_cost, exact_sum}
 
 -- ---- sums of options
 

@@ -16,7 +16,8 @@ use Rattle.capping.specs.declared.verdicts.Verdict.{Verdict}
 use Rattle.capping.specs.declared.verdicts.Verdict.TheVariants as verdict
 use Rattle.capping.specs.Verdicts.{leads_past, cutoff_left}
 use Rattle.capping.specs.Decisions.{NeedsLater, after_run}
-use Rattle.capping.proofs.ExactSums.{exact_cost, exact_sum, exact_below, exact_sum-same}
+use Rattle.capping.specs.ExactSums.{exact_cost, exact_sum}
+use Rattle.capping.proofs.ExactSums.{exact_below, exact_sum-same}
 use Rattle.capping.proofs.WalkEnds.{IsUndecided, IsOpen, IsEnd}
 
 -- ---- the place of the run

@@ -14,7 +14,8 @@ use Rattle.run_cache.specs.Knowledge.{Agrees, IsInRange, is_settled}
 use Rattle.run_cache.specs.Caches.{Knowledge}
 use Rattle.capping.specs.Verdicts.{is_past, leads_past, cutoff_left}
 use Rattle.capping.specs.Decisions.{question, IsCostKnown, IsNeeded}
-use Rattle.capping.proofs.ExactSums.{exact_cost, exact_sum, exact_total, exact_below}
+use Rattle.capping.specs.ExactSums.{exact_cost, exact_sum}
+use Rattle.capping.proofs.ExactSums.{exact_total, exact_below}
 use Rattle.capping.proofs.WalkEnds.{IsPassed, IsUndecided, IsOpen}
 
 -- the cutoff for what is left is a cutoff that a run may have

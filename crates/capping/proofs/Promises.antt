@@ -23,7 +23,8 @@ use Rattle.capping.specs.declared.verdicts.Verdict.{Verdict}
 use Rattle.capping.specs.declared.verdicts.Verdict.TheVariants as verdict
 use Rattle.capping.specs.Verdicts.{verdict_from, verdict_of}
 use Rattle.capping.specs.Decisions.{question, place_count, IfReply, IfNeed, IfAborted, OnEnded, IsAtMost, IsNeeded, IsDueAt, IsKnownAbort, IsFirstAbort, GoesOn, AreRanged, NeedsLater, after_run}
-use Rattle.capping.proofs.ExactSums.{exact_cost, exact_sum, parts_of}
+use Rattle.capping.specs.ExactSums.{exact_cost, exact_sum}
+use Rattle.capping.proofs.ExactSums.{parts_of}
 use Rattle.capping.proofs.WalkEnds.{IsEnd, walk_end}
 use Rattle.capping.proofs.RepliedCosts.{fitting, replied}
 use Rattle.capping.proofs.NeededRuns.{needed, due}

@@ -9,7 +9,8 @@ use Rattle.run_cache.specs.declared.known.Known.TheVariants.{Nothing, Over, Exac
 use Rattle.capping.specs.declared.verdicts.Verdict.{Verdict}
 use Rattle.capping.specs.declared.verdicts.Verdict.TheVariants.{Reply, Need, Aborted, Ended}
 use Rattle.capping.specs.Verdicts.{is_past, leads_past, cutoff_left, verdict_at, verdict_from}
-use Rattle.capping.proofs.ExactSums.{exact_cost, exact_sum, exact_sum-more}
+use Rattle.capping.specs.ExactSums.{exact_cost, exact_sum}
+use Rattle.capping.proofs.ExactSums.{exact_sum-more}
 
 -- the costs at the first places are known, and their sum isn't past the bound
 pub record IsPassed (known : ℕ → Known) (bound : Option ℕ) (done spent : ℕ) : Type 0 where

@@ -1,3 +1,4 @@
 pub mod Verdicts
 pub mod Decisions
+pub mod ExactSums
 pub mod Examples

@@ -6,6 +6,7 @@ ghost use Rattle.board_steps.specs.BoardInvariant.{BoardInvariant};
 ghost use Rattle.board_steps.specs.Phases.{phase_of, ask_on, asked_cell as cell_on, IfOpen, IfReplies, IfNeeds};
 ghost use Rattle.board_steps.specs.Numbering.{IsRunnable};
 ghost use Rattle.ils_face.specs.Replies.{Fits};
+ghost use Rattle.ils_face.specs.Rules.{AreRules};
 ghost use Rattle.board_steps.specs.Tickets.{found_in, standing_of};
 ghost use Rattle.pool_core.specs.Endings.{IsEnding};
 
@@ -52,13 +53,14 @@ impl<P: Search, S: Spawner> Model for Board<P, S> {
 
     ghost view = { λ b. state_of b.problem (P.replies_of b.search) b.cache b.wishes.items b.aborted b.ledger };
 
-    ghost invariant = { λ b. IsBoard P.shown (P.rules_of b.search) (state_of b.problem (P.replies_of b.search) b.cache b.wishes.items b.aborted b.ledger) };
+    ghost invariant = { λ b. IsBoard P.shown P.plain S.truth (P.rules_of b.search) (state_of b.problem (P.replies_of b.search) b.cache b.wishes.items b.aborted b.ledger) };
 }
 
 /// A search by the rules of a problem.
 fn open_search<P: Search>(alloc: Global, problem: &Problem) -> Result<P, Memory>
     ensures rules { IfOk result (λ s. P.rules_of s ≡ problem.now.rules) }
     ensures none { IfOk result (λ s. P.replies_of s ≡ []) }
+    ensures ruled { IfOk result (λ s. AreRules (P.rules_of s)) }
 {
     P::open(alloc, &problem.rules)
 }
@@ -74,7 +76,7 @@ impl<P: Search, S: Spawner> Board<P, S> {
     /// The opening board of a problem. It has the room for a stop.
     pub fn open(alloc: Global, problem: Problem) -> Result<Board<P, S>, Memory>
         ensures board { IfOk result (λ b. plain b ≡ opening problem) }
-        ensures invariant { IfOk result (BoardInvariant P.shown) }
+        ensures invariant { IfOk result (BoardInvariant P.shown P.plain S.truth) }
     {
         let search = open_search(alloc, &problem)?;
         let cache = open_cache(alloc, &problem);
@@ -92,7 +94,7 @@ impl<P: Search, S: Spawner> Board<P, S> {
 
     /// What holds of each board.
     pub fn is_board(&self)
-        ensures { BoardInvariant P.shown self.now }
+        ensures { BoardInvariant P.shown P.plain S.truth self.now }
     {
         let _ = &self.problem;
     }

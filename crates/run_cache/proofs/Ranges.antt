@@ -1,16 +1,17 @@
 -- What is known lies in its range, and a run settles its cell at its cutoff.
 use Rattle.std.proofs.Common.{ℕ, ◌≡◌, ◌≤◌, max, Bool, true, false, refl, inl, inr, arith}
 use Rattle.std.specs.Prelude.{nat_lt, if◌then◌else◌}
-use Rattle.std.proofs.lemmas.Bool.{le-leb}
+use Rattle.std.proofs.lemmas.Bool.{le-leb, leb-true}
 use Rattle.objective.specs.Bounds.{Bounds}
-use Rattle.objective.specs.Costs.{penalty}
+use Rattle.objective.specs.Costs.{IsWithin, penalty}
 use Rattle.objective.specs.declared.Answer.{Answer}
 use Rattle.objective.specs.declared.Answer.TheVariants as answer
 use Rattle.run_cache.specs.declared.known.Known.{Known}
 use Rattle.run_cache.specs.declared.known.Known.TheVariants.{Nothing, Over, Exact, Abort}
 use Rattle.run_cache.specs.declared.learning.Evidence.{Evidence}
 use Rattle.run_cache.specs.declared.learning.Evidence.TheVariants as evidence
-use Rattle.run_cache.specs.Knowledge.{IsCost, is_settled}
+use Rattle.run_cache.specs.Caches.{IsCutoff}
+use Rattle.run_cache.specs.Knowledge.{IsCost, IsInRange, IsShortened, is_settled}
 use Rattle.run_cache.specs.Learning.{evidence_of, lesson_from, lesson}
 use Rattle.run_cache.proofs.Agreement.{cutoff_at_most_penalty}
 
@@ -57,3 +58,52 @@ settled_line penalty cutoff Abort evidence.Abort under = refl
 -- after a run with a cutoff the cell is settled at it
 pub settled_after : (limits : Bounds) (known : Known) (cutoff : ℕ) (shown : Answer) → is_settled (lesson limits known cutoff shown).known cutoff ≡ true
 settled_after limits known cutoff shown = settled_line (penalty limits) cutoff known (evidence_of limits cutoff shown) (evidence_under limits cutoff shown)
+
+-- ---- what an answer within its cutoff teaches
+
+-- evidence of a run in range: its time is at most the full cutoff, and that it takes longer comes of a shortened one
+abbrev IsFrom : Bounds → Evidence → Type 0
+IsFrom limits (evidence.Solved t) = t.0 ≤ limits.cutoff
+IsFrom limits (evidence.Longer c) = IsShortened limits c.0
+IsFrom limits evidence.Unsolved = Unit {0}
+IsFrom limits evidence.Abort = Unit {0}
+
+-- an answer within its cutoff is such evidence
+evidence_from : (limits : Bounds) (cutoff : ℕ) (shown : Answer) → IsCutoff limits cutoff → IsWithin shown cutoff → IsFrom limits (evidence_of limits cutoff shown)
+evidence_from limits cutoff (answer.Solved t) in_range within = omega (arith, within, in_range.at_most)
+evidence_from limits cutoff answer.Timeout in_range within = by (nat_lt cutoff limits.cutoff) refl
+  where
+    by : (b : Bool) → nat_lt cutoff limits.cutoff ≡ b → IsFrom limits (if b then evidence.Longer (record { 0 = cutoff }) else evidence.Unsolved)
+    by true below = record { positive = in_range.positive; below = leb-true _ _ below }
+    by false below = tt
+evidence_from limits cutoff answer.Crashed in_range within = tt
+evidence_from limits cutoff answer.Abort in_range within = tt
+
+-- what it teaches lies in its range
+line_ranged : (limits : Bounds) (known : Known) (e : Evidence) → IsFrom limits e → IsInRange limits known
+    → IsInRange limits (lesson_from (penalty limits) known e).known
+line_ranged limits Nothing (evidence.Solved t) from before = inl from
+line_ranged limits Nothing (evidence.Longer c) from before = from
+line_ranged limits Nothing evidence.Unsolved from before = inr refl
+line_ranged limits Nothing evidence.Abort from before = tt
+line_ranged limits (Over k) (evidence.Solved t) from before = inl from
+line_ranged limits (Over k) (evidence.Longer c) from before = record {
+  positive = omega (arith, from.positive);
+  below = omega (arith, from.below, before.below);
+}
+line_ranged limits (Over k) evidence.Unsolved from before = inr refl
+line_ranged limits (Over k) evidence.Abort from before = tt
+line_ranged limits (Exact x) (evidence.Solved t) from before = before
+line_ranged limits (Exact x) (evidence.Longer c) from before = before
+line_ranged limits (Exact x) evidence.Unsolved from before = before
+line_ranged limits (Exact x) evidence.Abort from before = before
+line_ranged limits Abort (evidence.Solved t) from before = tt
+line_ranged limits Abort (evidence.Longer c) from before = tt
+line_ranged limits Abort evidence.Unsolved from before = tt
+line_ranged limits Abort evidence.Abort from before = tt
+
+-- what an answer within its cutoff teaches lies in its range
+pub lesson_ranged : (limits : Bounds) (known : Known) (cutoff : ℕ) (shown : Answer) → IsCutoff limits cutoff → IsWithin shown cutoff → IsInRange limits known
+    → IsInRange limits (lesson limits known cutoff shown).known
+lesson_ranged limits known cutoff shown in_range within before =
+    line_ranged limits known (evidence_of limits cutoff shown) (evidence_from limits cutoff shown in_range within) before

@@ -3,7 +3,7 @@ use Rattle.objective.specs.Bounds.{AreInRange}
 use Rattle.objective.specs.Limits.{max_cutoff}
 use Rattle.run_cache.specs.Caches.{known_at}
 use Rattle.capping.specs.Decisions.{bound_of}
-use Rattle.capping.proofs.ExactSums.{exact_cost}
+use Rattle.capping.specs.ExactSums.{exact_cost}
 use Rattle.capping.proofs.WalkSteps.{at_cost, in_range}
 use Rattle.capping.proofs.Promises.{cost_most}
 use Rattle.capping.proofs.decisions.verdict_by.Goals as goal

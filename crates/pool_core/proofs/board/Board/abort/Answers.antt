@@ -16,7 +16,7 @@ invariant_of-self-2 g c =
     let cell = asked-now g.P.Search.shown b (g.P.Search.rules_of i.search) c.in_ok-cell.cell c.args.place c.self.invariant.rules_same c.in_ok-cell.ensures in
     record {
       rules_same = c.self.invariant.rules_same;
-      board = rw (c.advance.ensures, c.make_room.ensures.same, c.clear.ensures.items) (step-abort g.P.Search.shown b c.args.place c.in_ok-cell.cell stands cell c.self.invariant.board).kept;
+      board = rw (c.advance.ensures, c.make_room.ensures.same, c.clear.ensures.items) (step-abort g.P.Search.shown g.P.Search.plain g.S.Spawner.truth b c.args.place c.in_ok-cell.cell stands cell c.self.invariant.board).kept;
     }
 
 pub returns-clause-board : goal.returns-clause-board
@@ -26,4 +26,4 @@ returns-clause-board g c =
     let P : BoardState → Type 0 = λ x. phase_of g.P.Search.shown (plain x) ≡ phase.Open (verdict.Aborted c.args.place) in
     let stands = subst P (sym c.self.view_is) c.requires in
     let cell = asked-now g.P.Search.shown b (g.P.Search.rules_of i.search) c.in_ok-cell.cell c.args.place c.self.invariant.rules_same c.in_ok-cell.ensures in
-    rw (c.advance.ensures, c.make_room.ensures.same, c.clear.ensures.items, ← c.self.view_is) (step-abort g.P.Search.shown b c.args.place c.in_ok-cell.cell stands cell c.self.invariant.board).plain_is
+    rw (c.advance.ensures, c.make_room.ensures.same, c.clear.ensures.items, ← c.self.view_is) (step-abort g.P.Search.shown g.P.Search.plain g.S.Spawner.truth b c.args.place c.in_ok-cell.cell stands cell c.self.invariant.board).plain_is

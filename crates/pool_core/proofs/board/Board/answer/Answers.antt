@@ -34,7 +34,7 @@ invariant_of-self-2 g c =
     let stands = subst S (sym c.self.view_is) c.requires.stands in
     let wished = wished-now g.P.Search.shown b rules after items c.others-others.result c.self.invariant.rules_same c.self.invariant.board.limits c.others-others.ensures c.in_ok-wishes.ensures.value in
     let runnable = wishes-runnable rules i.problem.rules items c.self.invariant.rules_same c.in_ok-wishes.ensures.runnable in
-    let step = step-reply g.P.Search.shown b r items stands wished runnable c.self.invariant.board in
+    let step = step-reply g.P.Search.shown g.P.Search.plain g.S.Spawner.truth g.met.P.Search.follows b r items stands wished runnable c.self.invariant.board in
     record {
       rules_same = c.answer.ensures.rules ∙ c.self.invariant.rules_same;
       board = rw (c.advance.ensures, c.make_room.ensures.same, c.in_ok-answer.ensures.taken) step.kept;
@@ -52,5 +52,5 @@ returns-clause-board g c =
     let stands = subst S (sym c.self.view_is) c.requires.stands in
     let wished = wished-now g.P.Search.shown b rules after items c.others-others.result c.self.invariant.rules_same c.self.invariant.board.limits c.others-others.ensures c.in_ok-wishes.ensures.value in
     let runnable = wishes-runnable rules i.problem.rules items c.self.invariant.rules_same c.in_ok-wishes.ensures.runnable in
-    let step = step-reply g.P.Search.shown b r items stands wished runnable c.self.invariant.board in
+    let step = step-reply g.P.Search.shown g.P.Search.plain g.S.Spawner.truth g.met.P.Search.follows b r items stands wished runnable c.self.invariant.board in
     rw (c.advance.ensures, c.make_room.ensures.same, c.in_ok-answer.ensures.taken, ← c.self.view_is) step.plain_is

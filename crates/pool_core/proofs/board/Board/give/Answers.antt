@@ -48,7 +48,7 @@ invariant_of-self-in_err-give g c =
     let b = state_of i.problem (g.P.Search.replies_of i.search) i.cache i.wishes.items i.aborted i.ledger in
     let shown = g.P.Search.shown in
     let e = c.reserve.ensures in
-    let places = step-places shown b c.reserve.new.self e.limits e.known e.conflicts e.places c.self.invariant.board in
+    let places = step-places g.P.Search.shown g.P.Search.plain g.S.Spawner.truth b c.reserve.new.self e.limits e.known e.conflicts e.places c.self.invariant.board in
     record {
       rules_same = c.self.invariant.rules_same;
       board = rw c.in_err-give.ensures.err places.kept;
@@ -60,7 +60,7 @@ returns-in_err-give-clause-err g c =
     let b = state_of i.problem (g.P.Search.replies_of i.search) i.cache i.wishes.items i.aborted i.ledger in
     let shown = g.P.Search.shown in
     let e = c.reserve.ensures in
-    let places = step-places shown b c.reserve.new.self e.limits e.known e.conflicts e.places c.self.invariant.board in
+    let places = step-places g.P.Search.shown g.P.Search.plain g.S.Spawner.truth b c.reserve.new.self e.limits e.known e.conflicts e.places c.self.invariant.board in
     rw (c.in_err-give.ensures.err, ← c.self.view_is) (always-err _ places.plain_is)
 
 pub invariant_of-self-2 : goal.invariant_of-self-2
@@ -73,7 +73,7 @@ invariant_of-self-2 g c =
     let kept_is : kept ≡ ticket_for (plain c.args.self.now) c.args.kind c.args.cell c.args.cutoff.0 = c.in_ok-kept.ensures ∙ c.in_ok-ticket.ensures.value in
     let parts = ticket-parts c.args.self.now c.args.kind c.args.cell c.args.cutoff.0 kept kept_is in
     let e = c.reserve.ensures in
-    let places = step-places shown b c.reserve.new.self e.limits e.known e.conflicts e.places c.self.invariant.board in
+    let places = step-places g.P.Search.shown g.P.Search.plain g.S.Spawner.truth b c.reserve.new.self e.limits e.known e.conflicts e.places c.self.invariant.board in
     let now : plain (record b { cache = c.reserve.new.self }) ≡ plain c.args.self.now = places.plain_is ∙ ap plain c.self.view_is in
     let offered : taken_on shown (plain c.args.self.now) ≡ taken.Ticket kept = c.requires.offered ∙ ap taken.Ticket (sym kept_is) in
     let next = ap (λ s. s.next) c.self.view_is in
@@ -85,7 +85,7 @@ invariant_of-self-2 g c =
     let alone = subst A (sym c.self.view_is) (ap (has_ticket c.args.self.now.live) parts.of_cell ∙ c.requires.alone) in
     let H : Cell → Type 0 = λ x. IsTrue (has_place_in c.reserve.new.self x.config x.place) in
     let place = subst H same_cell c.in_ok-reserve.ensures.place in
-    let step = step-take shown (record b { cache = c.reserve.new.self }) kept (ap (taken_on shown) now ∙ offered) (ap (λ s. s.stopped) c.self.view_is ∙ c.requires.running)
+    let step = step-take g.P.Search.shown g.P.Search.plain g.S.Spawner.truth g.met.P.Search.follows (record b { cache = c.reserve.new.self }) kept (ap (taken_on shown) now ∙ offered) (ap (λ s. s.stopped) c.self.view_is ∙ c.requires.running)
     (parts.number ∙ sym next) (parts.key ∙ sym (ap (λ x. key_of x kept.cell) problem)) runnable alone place places.kept in
     record {
       rules_same = c.self.invariant.rules_same;
@@ -102,7 +102,7 @@ returns-clause-board g c =
     let kept_is : kept ≡ ticket_for (plain c.args.self.now) c.args.kind c.args.cell c.args.cutoff.0 = c.in_ok-kept.ensures ∙ c.in_ok-ticket.ensures.value in
     let parts = ticket-parts c.args.self.now c.args.kind c.args.cell c.args.cutoff.0 kept kept_is in
     let e = c.reserve.ensures in
-    let places = step-places shown b c.reserve.new.self e.limits e.known e.conflicts e.places c.self.invariant.board in
+    let places = step-places g.P.Search.shown g.P.Search.plain g.S.Spawner.truth b c.reserve.new.self e.limits e.known e.conflicts e.places c.self.invariant.board in
     let now : plain (record b { cache = c.reserve.new.self }) ≡ plain c.args.self.now = places.plain_is ∙ ap plain c.self.view_is in
     let offered : taken_on shown (plain c.args.self.now) ≡ taken.Ticket kept = c.requires.offered ∙ ap taken.Ticket (sym kept_is) in
     let next = ap (λ s. s.next) c.self.view_is in
@@ -114,6 +114,6 @@ returns-clause-board g c =
     let alone = subst A (sym c.self.view_is) (ap (has_ticket c.args.self.now.live) parts.of_cell ∙ c.requires.alone) in
     let H : Cell → Type 0 = λ x. IsTrue (has_place_in c.reserve.new.self x.config x.place) in
     let place = subst H same_cell c.in_ok-reserve.ensures.place in
-    let step = step-take shown (record b { cache = c.reserve.new.self }) kept (ap (taken_on shown) now ∙ offered) (ap (λ s. s.stopped) c.self.view_is ∙ c.requires.running)
+    let step = step-take g.P.Search.shown g.P.Search.plain g.S.Spawner.truth g.met.P.Search.follows (record b { cache = c.reserve.new.self }) kept (ap (taken_on shown) now ∙ offered) (ap (λ s. s.stopped) c.self.view_is ∙ c.requires.running)
     (parts.number ∙ sym next) (parts.key ∙ sym (ap (λ x. key_of x kept.cell) problem)) runnable alone place places.kept in
     rw c.in_ok-give.ensures.ok (step.plain_is ∙ ap (λ x. with_ticket x kept) now ∙ after-taken shown (plain c.args.self.now) (taken.Ticket kept) (sym offered))

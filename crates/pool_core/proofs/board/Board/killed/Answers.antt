@@ -14,7 +14,7 @@ invariant_of-self g c =
     let found = found-some i.ledger.live c.args.ticket.now c.in-Some.l.now c.in-Some.ensures in
     record {
       rules_same = c.self.invariant.rules_same;
-      board = rw c.end.ensures (step-kill g.P.Search.shown b c.in-Some.l.now found c.self.invariant.board).kept;
+      board = rw c.end.ensures (step-kill g.P.Search.shown g.P.Search.plain g.S.Spawner.truth b c.in-Some.l.now found c.self.invariant.board).kept;
     }
 
 pub returns-in-None-clause-board : goal.returns-in-None-clause-board
@@ -35,4 +35,4 @@ returns-else-not-l-clause-board g c =
     let b = state_of i.problem (g.P.Search.replies_of i.search) i.cache i.wishes.items i.aborted i.ledger in
     let l = c.in-Some.l.now in
     let found = found-some i.ledger.live c.args.ticket.now l c.in-Some.ensures in
-    rw (c.end.ensures, ← c.self.view_is) ((step-kill g.P.Search.shown b l found c.self.invariant.board).plain_is ∙ killed-marked b c.args.ticket.now l c.in-Some.ensures c.if-not-l.false)
+    rw (c.end.ensures, ← c.self.view_is) ((step-kill g.P.Search.shown g.P.Search.plain g.S.Spawner.truth b l found c.self.invariant.board).plain_is ∙ killed-marked b c.args.ticket.now l c.in-Some.ensures c.if-not-l.false)

@@ -16,7 +16,7 @@ invariant_of-self g c =
     let lost = some-then _ _ l found c.lose.ensures in
     record {
       rules_same = c.self.invariant.rules_same;
-      board = rw lost (step-loss g.P.Search.shown b l found c.self.invariant.board).kept;
+      board = rw lost (step-loss g.P.Search.shown g.P.Search.plain g.S.Spawner.truth b l found c.self.invariant.board).kept;
     }
 
 pub returns-in-None-clause-board : goal.returns-in-None-clause-board
@@ -32,4 +32,4 @@ returns-in-Some-clause-board g c =
     let l = c.in-Some.l.now in
     let found = found-some i.ledger.live c.args.ticket.now l c.in-Some.ensures in
     let lost = some-then _ _ l found c.lose.ensures in
-    rw (lost, ← c.self.view_is) ((step-loss g.P.Search.shown b l found c.self.invariant.board).plain_is ∙ lost-live b c.args.ticket.now l c.in-Some.ensures)
+    rw (lost, ← c.self.view_is) ((step-loss g.P.Search.shown g.P.Search.plain g.S.Spawner.truth b l found c.self.invariant.board).plain_is ∙ lost-live b c.args.ticket.now l c.in-Some.ensures)

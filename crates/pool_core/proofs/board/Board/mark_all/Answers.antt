@@ -9,11 +9,11 @@ invariant_of-self g c =
     let b = state_of i.problem (g.P.Search.replies_of i.search) i.cache i.wishes.items i.aborted i.ledger in
     record {
       rules_same = c.self.invariant.rules_same;
-      board = rw c.mark_all.ensures.marked (step-marks g.P.Search.shown b all_unwanted c.self.invariant.board).kept;
+      board = rw c.mark_all.ensures.marked (step-marks g.P.Search.shown g.P.Search.plain g.S.Spawner.truth b all_unwanted c.self.invariant.board).kept;
     }
 
 pub returns-clause-board : goal.returns-clause-board
 returns-clause-board g c =
     let i = c.self.inside in
     let b = state_of i.problem (g.P.Search.replies_of i.search) i.cache i.wishes.items i.aborted i.ledger in
-    rw (c.mark_all.ensures.marked, ← c.self.view_is) (step-marks g.P.Search.shown b all_unwanted c.self.invariant.board).plain_is
+    rw (c.mark_all.ensures.marked, ← c.self.view_is) (step-marks g.P.Search.shown g.P.Search.plain g.S.Spawner.truth b all_unwanted c.self.invariant.board).plain_is

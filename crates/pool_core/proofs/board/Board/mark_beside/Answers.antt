@@ -30,7 +30,7 @@ invariant_of-self g c =
     let seen = is_unwanted_beside c.as_slice-wishes.result.now (record { config = cell_config; place = c.args.place }) c.args.cutoff.0 in
     let unwanted = ap (λ ws. is_unwanted_beside ws (record { config = cell_config; place = c.args.place }) c.args.cutoff.0) c.as_slice-wishes.ensures.value
     ∙ unwanted-beside shown b (g.P.Search.rules_of i.search) cell_config c.args.place c.args.cutoff c.self.invariant.rules_same stands asked in
-    let step = step-marks shown b seen c.self.invariant.board in
+    let step = step-marks g.P.Search.shown g.P.Search.plain g.S.Spawner.truth b seen c.self.invariant.board in
     record {
       rules_same = c.self.invariant.rules_same;
       board = rw c.mark_beside.ensures.marked step.kept;
@@ -48,7 +48,7 @@ returns-in-Full-clause-answer g c =
     let seen = is_unwanted_beside c.as_slice-wishes.result.now (record { config = cell_config; place = c.args.place }) c.args.cutoff.0 in
     let unwanted = ap (λ ws. is_unwanted_beside ws (record { config = cell_config; place = c.args.place }) c.args.cutoff.0) c.as_slice-wishes.ensures.value
     ∙ unwanted-beside shown b (g.P.Search.rules_of i.search) cell_config c.args.place c.args.cutoff c.self.invariant.rules_same stands asked in
-    let step = step-marks shown b seen c.self.invariant.board in
+    let step = step-marks g.P.Search.shown g.P.Search.plain g.S.Spawner.truth b seen c.self.invariant.board in
     rw (← c.self.view_is) (c.mark_beside.ensures.count ∙ ap (λ f. length (mark_events f i.ledger.live)) unwanted)
 
 pub returns-in-Full-clause-board : goal.returns-in-Full-clause-board
@@ -63,7 +63,7 @@ returns-in-Full-clause-board g c =
     let seen = is_unwanted_beside c.as_slice-wishes.result.now (record { config = cell_config; place = c.args.place }) c.args.cutoff.0 in
     let unwanted = ap (λ ws. is_unwanted_beside ws (record { config = cell_config; place = c.args.place }) c.args.cutoff.0) c.as_slice-wishes.ensures.value
     ∙ unwanted-beside shown b (g.P.Search.rules_of i.search) cell_config c.args.place c.args.cutoff c.self.invariant.rules_same stands asked in
-    let step = step-marks shown b seen c.self.invariant.board in
+    let step = step-marks g.P.Search.shown g.P.Search.plain g.S.Spawner.truth b seen c.self.invariant.board in
     rw (c.mark_beside.ensures.marked, ← c.self.view_is) (step.plain_is ∙ ap (marked_board (plain b)) unwanted)
 
 pub invariant_of-self-in-Versus : goal.invariant_of-self-in-Versus
@@ -78,7 +78,7 @@ invariant_of-self-in-Versus g c =
     let seen = is_unwanted_beside c.as_slice-wishes.result.now (record { config = cell_config; place = c.args.place }) c.args.cutoff.0 in
     let unwanted = ap (λ ws. is_unwanted_beside ws (record { config = cell_config; place = c.args.place }) c.args.cutoff.0) c.as_slice-wishes.ensures.value
     ∙ unwanted-beside shown b (g.P.Search.rules_of i.search) cell_config c.args.place c.args.cutoff c.self.invariant.rules_same stands asked in
-    let step = step-marks shown b seen c.self.invariant.board in
+    let step = step-marks g.P.Search.shown g.P.Search.plain g.S.Spawner.truth b seen c.self.invariant.board in
     record {
       rules_same = c.self.invariant.rules_same;
       board = rw c.mark_beside-in-Versus.ensures.marked step.kept;
@@ -96,7 +96,7 @@ returns-in-Versus-clause-answer g c =
     let seen = is_unwanted_beside c.as_slice-wishes.result.now (record { config = cell_config; place = c.args.place }) c.args.cutoff.0 in
     let unwanted = ap (λ ws. is_unwanted_beside ws (record { config = cell_config; place = c.args.place }) c.args.cutoff.0) c.as_slice-wishes.ensures.value
     ∙ unwanted-beside shown b (g.P.Search.rules_of i.search) cell_config c.args.place c.args.cutoff c.self.invariant.rules_same stands asked in
-    let step = step-marks shown b seen c.self.invariant.board in
+    let step = step-marks g.P.Search.shown g.P.Search.plain g.S.Spawner.truth b seen c.self.invariant.board in
     rw (← c.self.view_is) (c.mark_beside-in-Versus.ensures.count ∙ ap (λ f. length (mark_events f i.ledger.live)) unwanted)
 
 pub returns-in-Versus-clause-board : goal.returns-in-Versus-clause-board
@@ -111,5 +111,5 @@ returns-in-Versus-clause-board g c =
     let seen = is_unwanted_beside c.as_slice-wishes.result.now (record { config = cell_config; place = c.args.place }) c.args.cutoff.0 in
     let unwanted = ap (λ ws. is_unwanted_beside ws (record { config = cell_config; place = c.args.place }) c.args.cutoff.0) c.as_slice-wishes.ensures.value
     ∙ unwanted-beside shown b (g.P.Search.rules_of i.search) cell_config c.args.place c.args.cutoff c.self.invariant.rules_same stands asked in
-    let step = step-marks shown b seen c.self.invariant.board in
+    let step = step-marks g.P.Search.shown g.P.Search.plain g.S.Spawner.truth b seen c.self.invariant.board in
     rw (c.mark_beside-in-Versus.ensures.marked, ← c.self.view_is) (step.plain_is ∙ ap (marked_board (plain b)) unwanted)

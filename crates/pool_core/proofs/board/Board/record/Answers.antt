@@ -1,6 +1,8 @@
-use Rattle.std.proofs.Common.{◌∙◌}
+use Rattle.std.proofs.Common.{◌∙◌, sym, subst}
+use Rattle.objective.specs.Costs.{IsWithin}
 use Rattle.board_steps.specs.Boards.{state_of}
 use Rattle.board_steps.proofs.KeptBoards.{step-answer}
+use Rattle.board_steps.proofs.KeptParts.{IsTold}
 use Rattle.pool_core.proofs.TicketEnds.{found-some, is-some, ticket-found, live-ticket, record-live, record-marked, record-none, recorded-live, recorded-marked, recorded-none}
 use Rattle.pool_core.proofs.board.Board.record.Goals as goal
 
@@ -26,10 +28,13 @@ invariant_of-self g c =
     let b = state_of i.problem (g.P.Search.replies_of i.search) i.cache i.wishes.items i.aborted i.ledger in
     let l = c.in-Some.l.now in
     let found = found-some i.ledger.live c.args.ticket.now l c.in-Some.ensures in
+    let same = ticket-found i.ledger.live c.args.ticket.now l c.in-Some.ensures in
+    let within = subst (λ t. IsWithin c.args.answer t.run.cutoff.0) (sym same) c.requires.within in
+    let told = subst (λ t. IsTold g.S.Spawner.truth t c.args.answer) (sym same) c.requires.told in
     let e = c.learn-learnt.ensures in
     record {
       rules_same = c.self.invariant.rules_same;
-      board = rw c.end.ensures (step-answer g.P.Search.shown b c.learn-learnt.new.self c.args.answer l found e.limits e.known e.conflicts e.places c.self.invariant.board).kept;
+      board = rw c.end.ensures (step-answer g.P.Search.shown g.P.Search.plain g.S.Spawner.truth b c.learn-learnt.new.self c.args.answer l found within told e.limits e.known e.conflicts e.places c.self.invariant.board).kept;
     }
 
 pub returns-in-None-clause-answer : goal.returns-in-None-clause-answer
@@ -68,6 +73,9 @@ returns-else-l-clause-board g c =
     let b = state_of i.problem (g.P.Search.replies_of i.search) i.cache i.wishes.items i.aborted i.ledger in
     let l = c.in-Some.l.now in
     let found = found-some i.ledger.live c.args.ticket.now l c.in-Some.ensures in
+    let same = ticket-found i.ledger.live c.args.ticket.now l c.in-Some.ensures in
+    let within = subst (λ t. IsWithin c.args.answer t.run.cutoff.0) (sym same) c.requires.within in
+    let told = subst (λ t. IsTold g.S.Spawner.truth t c.args.answer) (sym same) c.requires.told in
     let e = c.learn-learnt.ensures in
-    rw (c.end.ensures, ← c.self.view_is) ((step-answer g.P.Search.shown b c.learn-learnt.new.self c.args.answer l found e.limits e.known e.conflicts e.places c.self.invariant.board).plain_is
+    rw (c.end.ensures, ← c.self.view_is) ((step-answer g.P.Search.shown g.P.Search.plain g.S.Spawner.truth b c.learn-learnt.new.self c.args.answer l found within told e.limits e.known e.conflicts e.places c.self.invariant.board).plain_is
     ∙ record-live b c.args.ticket.now c.args.answer l c.in-Some.ensures c.if-l.false)

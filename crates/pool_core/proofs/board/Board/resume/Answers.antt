@@ -14,7 +14,7 @@ invariant_of-self-2 g c =
     let halted = subst IsHalted (sym c.self.view_is) (sym c.is_halted.ensures ∙ c.if-not-is_halted.false) in
     record {
       rules_same = c.self.invariant.rules_same;
-      board = rw c.in_ok-resume.ensures.ok (step-resume g.P.Search.shown b halted c.self.invariant.board).kept;
+      board = rw c.in_ok-resume.ensures.ok (step-resume g.P.Search.shown g.P.Search.plain g.S.Spawner.truth b halted c.self.invariant.board).kept;
     }
 
 pub returns-clause-board : goal.returns-clause-board
@@ -22,4 +22,4 @@ returns-clause-board g c =
     let i = c.self.inside in
     let b = state_of i.problem (g.P.Search.replies_of i.search) i.cache i.wishes.items i.aborted i.ledger in
     let halted = subst IsHalted (sym c.self.view_is) (sym c.is_halted.ensures ∙ c.if-not-is_halted.false) in
-    rw (c.in_ok-resume.ensures.ok, ← c.self.view_is) ((step-resume g.P.Search.shown b halted c.self.invariant.board).plain_is ∙ resume-halted b halted)
+    rw (c.in_ok-resume.ensures.ok, ← c.self.view_is) ((step-resume g.P.Search.shown g.P.Search.plain g.S.Spawner.truth b halted c.self.invariant.board).plain_is ∙ resume-halted b halted)

@@ -11,7 +11,7 @@ invariant_of-self g c =
     let running : i.ledger.stopped ≡ false = sym c.stopped.ensures ∙ c.if-not-stopped.true in
     record {
       rules_same = c.self.invariant.rules_same;
-      board = rw c.stop.ensures (step-stop g.P.Search.shown b running c.self.invariant.board).kept;
+      board = rw c.stop.ensures (step-stop g.P.Search.shown g.P.Search.plain g.S.Spawner.truth b running c.self.invariant.board).kept;
     }
 
 pub returns-then-not-stopped : goal.returns-then-not-stopped
@@ -19,7 +19,7 @@ returns-then-not-stopped g c =
     let i = c.self.inside in
     let b = state_of i.problem (g.P.Search.replies_of i.search) i.cache i.wishes.items i.aborted i.ledger in
     let running : i.ledger.stopped ≡ false = sym c.stopped.ensures ∙ c.if-not-stopped.true in
-    rw (c.stop.ensures, ← c.self.view_is) ((step-stop g.P.Search.shown b running c.self.invariant.board).plain_is ∙ stop-running b running)
+    rw (c.stop.ensures, ← c.self.view_is) ((step-stop g.P.Search.shown g.P.Search.plain g.S.Spawner.truth b running c.self.invariant.board).plain_is ∙ stop-running b running)
 
 pub returns-else-not-stopped : goal.returns-else-not-stopped
 returns-else-not-stopped g c =

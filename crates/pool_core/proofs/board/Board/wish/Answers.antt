@@ -30,7 +30,7 @@ invariant_of-self-2 g c =
     let S : BoardState → Type 0 = λ x. phase_of g.P.Search.shown (plain x) ≡ phase.Open (verdict.Need c.args.place c.args.cutoff) in
     let stands = subst S (sym c.self.view_is) c.requires in
     let runnable = wishes-runnable rules i.problem.rules items c.self.invariant.rules_same c.in_ok-wishes.ensures.runnable in
-    let step = step-wishes g.P.Search.shown b c.args.place c.args.cutoff items stands wished (sym compared ∙ c.if-same_wishes.false) runnable c.self.invariant.board in
+    let step = step-wishes g.P.Search.shown g.P.Search.plain g.S.Spawner.truth b c.args.place c.args.cutoff items stands wished (sym compared ∙ c.if-same_wishes.false) runnable c.self.invariant.board in
     record {
       rules_same = c.self.invariant.rules_same;
       board = rw (c.advance.ensures, c.make_room.ensures.same) step.kept;
@@ -47,5 +47,5 @@ returns-clause-board g c =
     let S : BoardState → Type 0 = λ x. phase_of g.P.Search.shown (plain x) ≡ phase.Open (verdict.Need c.args.place c.args.cutoff) in
     let stands = subst S (sym c.self.view_is) c.requires in
     let runnable = wishes-runnable rules i.problem.rules items c.self.invariant.rules_same c.in_ok-wishes.ensures.runnable in
-    let step = step-wishes g.P.Search.shown b c.args.place c.args.cutoff items stands wished (sym compared ∙ c.if-same_wishes.false) runnable c.self.invariant.board in
+    let step = step-wishes g.P.Search.shown g.P.Search.plain g.S.Spawner.truth b c.args.place c.args.cutoff items stands wished (sym compared ∙ c.if-same_wishes.false) runnable c.self.invariant.board in
     rw (c.advance.ensures, c.make_room.ensures.same, ← c.self.view_is) step.plain_is
