@@ -4,3 +4,4 @@ mod PresentPhases
 mod NoWishes
 mod Offers
 mod MarkedBoards
+mod ShownEndings

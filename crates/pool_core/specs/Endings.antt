@@ -1,10 +1,14 @@
 -- How a search is at its end.
 use Rattle.std.specs.Prelude.{◌≡◌, ◌≢◌, List, Some, None}
+use Rattle.uncapped.specs.Uncapped.{Run}
+use Rattle.ils_face.specs.Aborts.{entries_of}
 use Rattle.ils_face.specs.declared.asks.Ask.TheVariants.{End}
 use Rattle.ils_face.specs.declared.asks.Reply.{Reply}
 use Rattle.ils_face.specs.Rules.{Rules}
+use Rattle.ils_face.specs.Steady.{Grows}
 use Rattle.ils_face.specs.Views.{View}
 use Rattle.board_steps.specs.Boards.{BoardState}
+use Rattle.board_steps.specs.ShownEntries.{ShowsAll, ShowsAborted}
 use Rattle.pool_core.specs.declared.board.Ending.{Ending}
 use Rattle.pool_core.specs.declared.board.Ending.TheVariants.{Running, Finished, Aborted}
 
@@ -13,3 +17,10 @@ abbrev pub IsEnding : (Rules → List Reply → View) → BoardState → Ending 
 IsEnding shown b Running = (b.aborted ≡ None) × ((shown b.problem.rules b.replies).ask ≢ End)
 IsEnding shown b Finished = (b.aborted ≡ None) × ((shown b.problem.rules b.replies).ask ≡ End)
 IsEnding shown b (Aborted cell) = b.aborted ≡ Some cell.now
+
+-- what is shown at an ending, beside the procedure over the truth and the whole one, where each abort counts as unsolved:
+-- the first entries of the whole one; at the end all of them and its last line, and where a run aborted all of the procedure's
+abbrev pub ShowsEnding : View → Run → Run → Ending → Type 0
+ShowsEnding view run whole Running = Grows view.entries (entries_of whole)
+ShowsEnding view run whole Finished = ShowsAll view run whole
+ShowsEnding view run whole (Aborted cell) = ShowsAborted view run whole

@@ -1,14 +1,16 @@
 //! The board.
-ghost use Rattle.std.specs.Prelude.{◌≡◌, [], IfOk, length};
+ghost use Rattle.std.specs.Prelude.{◌≡◌, [], IfOk, IsSome, length};
 ghost use Rattle.run_cache.specs.Caches.{known_in};
 ghost use Rattle.board_steps.specs.Boards.{opening, plain};
 ghost use Rattle.board_steps.specs.BoardInvariant.{BoardInvariant};
+ghost use Rattle.board_steps.specs.RepliedAsks.{quiet_by};
+ghost use Rattle.board_steps.specs.ShownEntries.{true_by};
 ghost use Rattle.board_steps.specs.Phases.{phase_of, ask_on, asked_cell as cell_on, IfOpen, IfReplies, IfNeeds};
 ghost use Rattle.board_steps.specs.Numbering.{IsRunnable};
 ghost use Rattle.ils_face.specs.Replies.{Fits};
 ghost use Rattle.ils_face.specs.Rules.{AreRules};
 ghost use Rattle.board_steps.specs.Tickets.{found_in, standing_of};
-ghost use Rattle.pool_core.specs.Endings.{IsEnding};
+ghost use Rattle.pool_core.specs.Endings.{IsEnding, ShowsEnding};
 
 use crate::present_asks::verdict_by;
 use board_steps::{Event, Ledger, Phase, Problem, Standing, Ticket};
@@ -142,8 +144,20 @@ impl<P: Search, S: Spawner> Board<P, S> {
         self.ledger.standing(ticket)
     }
 
-    /// Whether the search is at its end. Takes no memory.
+    /// Whether the search is at its end. Where the truth is told, the entries that are shown are at
+    /// any time the first ones of the procedure over it, where each abort counts as unsolved; at the
+    /// end they are all of them, and after an abort the procedure's own are the first of them.
+    /// Takes no memory.
     pub fn ending(&self) -> Ending<'_>
+        ensures ending { IsEnding P.shown self.now result }
+        ensures shows { IsSome S.truth → ShowsEnding (P.shown self.now.problem.rules self.now.replies) (true_by P.plain S.truth self.now.problem) (quiet_by P.plain S.truth self.now.problem) result }
+    {
+        self.is_board();
+        self.present_ending()
+    }
+
+    /// Whether the search is at its end, by its present ask.
+    fn present_ending(&self) -> Ending<'_>
         ensures { IsEnding P.shown self.now result }
     {
         match &self.aborted {

@@ -1,0 +1,7 @@
+use Rattle.pool_core.proofs.ShownEndings.{ending-shows}
+use Rattle.pool_core.proofs.board.Board.ending.Goals as goal
+
+pub returns-clause-shows : goal.returns-clause-shows
+returns-clause-shows g c =
+    ending-shows g.P.Search.shown g.P.Search.plain g.S.Spawner.truth g.met.P.Search.follows g.met.P.Search.steady g.met.P.Search.aborts
+    c.args.self.now c.present_ending.result c.present_ending.ensures c.is_board.ensures
