@@ -14,7 +14,6 @@ pub mod AbortedBoards
 pub mod SummedReplies
 pub mod RecordedRuns
 pub mod RisingBoards
-pub mod KnownRanges
 pub mod RepliedAsks
 pub mod DueTickets
 mod EarlierEntries
