@@ -6,6 +6,7 @@ pub mod LiveTickets
 pub mod Replayed
 pub mod MarkedTickets
 pub mod SameTickets
+pub mod SameItself
 pub mod JournalRuns
 pub mod AgreeingBoards
 pub mod GivenTickets
@@ -16,7 +17,6 @@ pub mod RecordedRuns
 pub mod RisingBoards
 pub mod RepliedAsks
 pub mod DueTickets
-mod EarlierEntries
 pub mod ShownEntries
 pub mod TruthfulBoards
 pub mod RangedBoards
@@ -24,3 +24,4 @@ pub mod KeptParts
 pub mod KeptBoards
 pub mod ToldEntries
 pub mod KeptKnowledge
+mod SameProblems

@@ -1,9 +1,9 @@
 -- Tickets that are the same are equal.
-use Rattle.std.proofs.Common.{ℕ, ◌≡◌, ◌==◌, ◌&&◌, Bool, true, false, List, [], ◌∷◌, refl}
+use Rattle.std.proofs.Common.{◌≡◌, ◌==◌, ◌&&◌, true, false, refl}
 use Rattle.std.specs.Cmp.Lexicographic.{pointwise}
 use Rattle.std.specs.Str.{bytes_eq}
 use Rattle.std.proofs.lemmas.Bool.{eqb-true}
-use Rattle.std.proofs.lemmas.Slice.Eq.{bytes_eq-Decides}
+use Rattle.plain_text.proofs.SameItems.{same_items, same_text}
 use Rattle.wrapper_lines.specs.declared.runs.Setting.{Setting}
 use Rattle.wrapper_lines.specs.declared.runs.Key.{Key}
 use Rattle.board_steps.specs.declared.tickets.Kind.{Kind}
@@ -19,26 +19,12 @@ same_kind-equal Ahead Ahead same = refl
 same_kind-equal Asked Ahead same = absurd (let e : false ≡ true = same in cc)
 same_kind-equal Ahead Asked same = absurd (let e : false ≡ true = same in cc)
 
--- texts that are the same are equal
-same_bytes : (one other : List ℕ) → bytes_eq one other ≡ true → one ≡ other
-same_bytes one other same = (bytes_eq-Decides one other).0 same
-
 -- settings that are the same are equal
 same_setting-equal : (one other : Setting) → same_setting one other ≡ true → one ≡ other
 same_setting-equal one other same =
-    let name = same_bytes one.name other.name (and-left (bytes_eq one.name other.name) (bytes_eq one.value other.value) same) in
-    let value = same_bytes one.value other.value (and-right (bytes_eq one.name other.name) (bytes_eq one.value other.value) same) in
+    let name = same_text one.name other.name (and-left (bytes_eq one.name other.name) (bytes_eq one.value other.value) same) in
+    let value = same_text one.value other.value (and-right (bytes_eq one.name other.name) (bytes_eq one.value other.value) same) in
     λ i. record { name = name i; value = value i }
-
--- lists whose elements are the same
-pointwise-equal : {X : Type 0} (E : X → X → Bool) → ((x y : X) → E x y ≡ true → x ≡ y) → (xs ys : List X) → pointwise E xs ys ≡ true → xs ≡ ys
-pointwise-equal E equal [] [] same = refl
-pointwise-equal E equal [] (y ∷ ys) same = absurd (let e : false ≡ true = same in cc)
-pointwise-equal E equal (x ∷ xs) [] same = absurd (let e : false ≡ true = same in cc)
-pointwise-equal E equal (x ∷ xs) (y ∷ ys) same =
-    let first = equal x y (and-left (E x y) (pointwise E xs ys) same) in
-    let rest = pointwise-equal E equal xs ys (and-right (E x y) (pointwise E xs ys) same) in
-    λ i. first i ∷ rest i
 
 -- keys that are the same are equal
 same_key-equal : (one other : Key) → same_key one other ≡ true → one ≡ other
@@ -50,9 +36,9 @@ same_key-equal one other same =
     let front = and-left (seeds && instances && specifics) settings same in
     let pair = and-left (seeds && instances) specifics front in
     let seed = eqb-true one.seed other.seed (and-left seeds instances pair) in
-    let instance = same_bytes one.instance other.instance (and-right seeds instances pair) in
-    let specific = same_bytes one.specifics other.specifics (and-right (seeds && instances) specifics front) in
-    let setting = pointwise-equal same_setting same_setting-equal one.settings other.settings (and-right (seeds && instances && specifics) settings same) in
+    let instance = same_text one.instance other.instance (and-right seeds instances pair) in
+    let specific = same_text one.specifics other.specifics (and-right (seeds && instances) specifics front) in
+    let setting = same_items same_setting same_setting-equal one.settings other.settings (and-right (seeds && instances && specifics) settings same) in
     λ i. record { instance = instance i; specifics = specific i; seed = seed i; settings = setting i }
 
 -- tickets that are the same are equal

@@ -39,7 +39,7 @@ use Rattle.board_steps.specs.ProblemRuns.{table_of}
 use Rattle.board_steps.specs.AgreeingBoards.{IsAgreeing}
 use Rattle.board_steps.specs.RepliedAsks.{quiet_sums, quiet_by, AreReplied}
 use Rattle.board_steps.specs.ShownEntries.{true_by, IsAnsweredAt, ShowsAll, ShowsAborted}
-use Rattle.board_steps.proofs.EarlierEntries.{shorter_first, fewer_before}
+use Rattle.ils_face.proofs.EarlierEntries.{shorter_first, fewer_before}
 use Rattle.board_steps.proofs.RepliedAsks.{quiet-follows, present-ask}
 
 -- ---- runs that are cut at an ask

@@ -1,5 +1,5 @@
 //! What is tuned.
-ghost use Rattle.std.specs.Prelude.{◌≡◌, ◌≤◌, IfOk, map};
+ghost use Rattle.std.specs.Prelude.{◌≡◌, ◌≤◌, ◌↔◌, IsTrue, IfOk, map};
 ghost use Rattle.param_space.specs.Space.{Belongs};
 ghost use Rattle.param_space.specs.Settings;
 ghost use Rattle.board_steps.specs.ProblemRuns;
@@ -33,6 +33,34 @@ impl Model for Problem {
     ghost view = { λ p. record { rules = p.rules; pairs = p.pairs } };
 
     ghost invariant = { λ p. p.rules.max_runs ≡ p.pairs.max_runs };
+}
+
+impl PartialEq for Problem {
+    ghost use Rattle.std.specs.Cmp.{partial_equiv_from_equiv};
+    ghost use Rattle.std.specs.Ordering.{on, eq_of_both};
+    ghost use Rattle.std.proofs.lemmas.Cmp.{and_equiv, on_equiv};
+    ghost use Rattle.ils_face.specs.contracts.rules.RulesEq.TheImpl.Laws as rules;
+    ghost use Rattle.instance_pairs.specs.contracts.pairs.PairsEq.TheImpl.Laws as pairs;
+
+    ghost eq = { eq_of_both (on (λ p. p.rules) ⟦<Rules as PartialEq>⟧.eq) (on (λ p. p.pairs) ⟦<Pairs as PartialEq>⟧.eq) };
+
+    ghost laws = { partial_equiv_from_equiv (and_equiv (on_equiv (λ p. p.rules) rules.laws-law) (on_equiv (λ p. p.pairs) pairs.laws-law)) };
+
+    /// Whether both are the same problem.
+    fn eq(&self, other: &Problem) -> bool
+        ensures value { result ≡ ⟦<Problem as PartialEq>⟧.eq self.now other.now }
+        ensures same { IsTrue result ↔ (self.now ≡ other.now) }
+    {
+        self.rules == other.rules && self.pairs == other.pairs
+    }
+}
+
+impl Eq for Problem {
+    ghost use Rattle.std.proofs.lemmas.Cmp.{and_equiv, on_equiv};
+    ghost use Rattle.ils_face.specs.contracts.rules.RulesEq.TheImpl.Laws as rules;
+    ghost use Rattle.instance_pairs.specs.contracts.pairs.PairsEq.TheImpl.Laws as pairs;
+
+    ghost laws = { and_equiv (on_equiv (λ p. p.rules) rules.laws-law) (on_equiv (λ p. p.pairs) pairs.laws-law) };
 }
 
 /// The settings of a configuration: each active parameter's name with its value.

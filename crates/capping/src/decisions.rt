@@ -1,5 +1,5 @@
 //! The decision on an ask.
-ghost use Rattle.std.specs.Prelude.{◌≡◌, ◌*◌, ◌≤◌, suc, IsSomeAnd, IfSome};
+ghost use Rattle.std.specs.Prelude.{◌≡◌, ◌*◌, ◌≤◌, IsSomeAnd, IfSome};
 ghost use Rattle.objective.specs.Costs.{Table};
 ghost use Rattle.objective.specs.Limits.{max_cutoff, max_runs};
 ghost use Rattle.uncapped.specs.Totals.{total_cost, quiet};
@@ -14,7 +14,7 @@ use crate::verdicts::Verdict;
 use ils_face::{Ask, Reply};
 use objective::{Limits, Micros, Sum, add, cap};
 use param_space::Config;
-use run_cache::{Cache, Known};
+use run_cache::{Cache, Known, known_next};
 
 /// Whether so much is more than the bound. A tie isn't.
 fn is_past(bound: Option<Sum>, spent: Sum) -> bool
@@ -45,16 +45,6 @@ fn need(limits: &Limits, bound: Option<Sum>, place: u32, spent: Sum) -> Verdict
         None => limits.cutoff,
     };
     Verdict::Need { place, cutoff }
-}
-
-/// What is known of the place after so many.
-fn known_next(row: &[Known], done: u32) -> Known
-    ensures { result ≡ known_at_place row.now (suc done) }
-{
-    match row.get(done as usize) {
-        Some(known) => *known,
-        None => Known::Nothing,
-    }
 }
 
 /// The verdict on the places 1 to n, up to a bound, by what is known of a configuration.

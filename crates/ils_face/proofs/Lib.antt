@@ -5,3 +5,5 @@ pub mod Trajectories
 pub mod FittingReplies
 pub mod AbortedRuns
 pub mod FirstEntries
+pub mod EarlierEntries
+pub mod SameRules

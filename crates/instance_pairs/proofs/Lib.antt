@@ -2,3 +2,4 @@ mod InstanceCounts
 mod LineInstances
 mod Places
 mod Rounds
+pub mod SamePairs

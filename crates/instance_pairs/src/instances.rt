@@ -7,7 +7,7 @@ use plain_text::{Copied, Text, after_word, end_trimmed, first_word, front_trimme
 use std::alloc::Global;
 
 /// An instance that configurations are run on.
-#[derive(Drop)]
+#[derive(Drop, PartialEq, Eq)]
 pub struct Instance {
     /// Its name.
     pub name: Text,

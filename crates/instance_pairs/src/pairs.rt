@@ -47,6 +47,38 @@ impl Model for Pairs {
     ghost invariant = { λ p. ArePairsInRange (length p.instances) p.max_runs × AreSpots p.order p.seed (length p.instances) p.max_runs p.spots };
 }
 
+impl PartialEq for Pairs {
+    ghost use Rattle.std.specs.Prelude.{nat_eq};
+    ghost use Rattle.std.specs.Cmp.{partial_equiv_from_equiv};
+    ghost use Rattle.std.specs.Cmp.Lexicographic.{pointwise};
+    ghost use Rattle.std.specs.Cmp.Rules.{comparing};
+    ghost use Rattle.std.specs.Ordering.{on, eq_of_both};
+    ghost use Rattle.std.proofs.Common.{rules};
+    ghost use Rattle.std.proofs.lemmas.Cmp.{and_equiv, on_equiv, lists_equiv};
+    ghost use Rattle.instance_pairs.specs.contracts.instances.InstanceEq.TheImpl.Laws as instance;
+
+    ghost eq = { eq_of_both (on (λ p. p.instances) (pointwise ⟦<Instance as PartialEq>⟧.eq)) (eq_of_both (on (λ p. p.seed) nat_eq) (eq_of_both (on (λ p. p.deterministic) ⟦<bool as PartialEq>⟧.eq) (eq_of_both (on (λ p. p.order) ⟦<PairOrder as PartialEq>⟧.eq) (on (λ p. p.max_runs) nat_eq)))) };
+
+    ghost laws = { partial_equiv_from_equiv (and_equiv (on_equiv (λ p. p.instances) (lists_equiv instance.laws-law)) (Prim.search (comparing, rules))) };
+
+    fn eq(&self, other: &Pairs) -> bool {
+        self.instances == other.instances
+            && self.seed == other.seed
+            && self.deterministic == other.deterministic
+            && self.order == other.order
+            && self.max_runs == other.max_runs
+    }
+}
+
+impl Eq for Pairs {
+    ghost use Rattle.std.specs.Cmp.Rules.{comparing};
+    ghost use Rattle.std.proofs.Common.{rules};
+    ghost use Rattle.std.proofs.lemmas.Cmp.{and_equiv, on_equiv, lists_equiv};
+    ghost use Rattle.instance_pairs.specs.contracts.instances.InstanceEq.TheImpl.Laws as instance;
+
+    ghost laws = { and_equiv (on_equiv (λ p. p.instances) (lists_equiv instance.laws-law)) (Prim.search (comparing, rules)) };
+}
+
 /// How many runs a configuration may have at most.
 fn max_runs_for(deterministic: bool, count: u32, wanted: u32) -> u32
     ensures { result ≡ max_runs_of deterministic count wanted }

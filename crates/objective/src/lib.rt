@@ -121,6 +121,28 @@ impl Model for Limits {
     ghost inverse = { λ b. record { cutoff = record { 0 = b.cutoff }; factor = b.factor; floor = record { 0 = b.floor } } };
 }
 
+impl PartialEq for Limits {
+    ghost use Rattle.std.specs.Prelude.{nat_eq};
+    ghost use Rattle.std.specs.Cmp.Rules.{comparing};
+    ghost use Rattle.std.specs.Ordering.{on, eq_of_both};
+    ghost use Rattle.std.proofs.Common.{rules};
+
+    ghost eq = { eq_of_both (on (λ l. l.cutoff) nat_eq) (eq_of_both (on (λ l. l.factor) ⟦<Factor as PartialEq>⟧.eq) (on (λ l. l.floor) nat_eq)) };
+
+    ghost laws = { Prim.search (comparing, rules) };
+
+    fn eq(&self, other: &Limits) -> bool {
+        self.cutoff == other.cutoff && self.factor == other.factor && self.floor == other.floor
+    }
+}
+
+impl Eq for Limits {
+    ghost use Rattle.std.specs.Cmp.Rules.{comparing};
+    ghost use Rattle.std.proofs.Common.{rules};
+
+    ghost laws = { Prim.search (comparing, rules) };
+}
+
 /// What a run with this outcome shows under a cutoff.
 pub fn seen(outcome: Outcome, cutoff: Micros) -> Answer
     ensures { result ≡ Costs.seen outcome cutoff.0 }

@@ -14,3 +14,4 @@ mod Checks
 mod SettledValues
 mod ActiveValues
 mod SettingTexts
+pub mod SameSpaces

@@ -8,7 +8,7 @@ use plain_text::{Copied, Items, Text};
 use thiserror::Error;
 
 /// A parameter with its values. Values are numbered from 0.
-#[derive(Drop)]
+#[derive(Drop, PartialEq, Eq)]
 pub struct Param {
     /// The name, a word.
     pub name: Text,
@@ -38,7 +38,7 @@ impl Copied for Param {
 }
 
 /// The child is active only where its parent is active and has a listed value.
-#[derive(Drop)]
+#[derive(Drop, PartialEq, Eq)]
 pub struct Condition {
     /// The number of the child, from 0.
     pub child: u16,
@@ -78,7 +78,7 @@ pub struct Pick {
 }
 
 /// Settings that may not stand together.
-#[derive(Drop)]
+#[derive(Drop, PartialEq, Eq)]
 pub struct Forbidden {
     /// The settings.
     pub picks: Items<Pick>,

@@ -42,6 +42,35 @@ impl Model for Space {
     ghost invariant = { λ s. IsSpace (space_lists s.params s.conditions s.forbidden) × IsOrder s.conditions s.order };
 }
 
+impl PartialEq for Space {
+    ghost use Rattle.std.specs.Cmp.{partial_equiv_from_equiv};
+    ghost use Rattle.std.specs.Cmp.Lexicographic.{pointwise};
+    ghost use Rattle.std.specs.Ordering.{on, eq_of_both};
+    ghost use Rattle.std.proofs.lemmas.Cmp.{and_equiv, on_equiv, lists_equiv};
+    ghost use Rattle.param_space.specs.contracts.lists.ParamEq.TheImpl.Laws as param;
+    ghost use Rattle.param_space.specs.contracts.lists.ConditionEq.TheImpl.Laws as condition;
+    ghost use Rattle.param_space.specs.contracts.lists.ForbiddenEq.TheImpl.Laws as forbidden;
+
+    ghost eq = { eq_of_both (on (λ s. s.params) (pointwise ⟦<Param as PartialEq>⟧.eq)) (eq_of_both (on (λ s. s.conditions) (pointwise ⟦<Condition as PartialEq>⟧.eq)) (on (λ s. s.forbidden) (pointwise ⟦<Forbidden as PartialEq>⟧.eq))) };
+
+    ghost laws = { partial_equiv_from_equiv (and_equiv (on_equiv (λ s. s.params) (lists_equiv param.laws-law)) (and_equiv (on_equiv (λ s. s.conditions) (lists_equiv condition.laws-law)) (on_equiv (λ s. s.forbidden) (lists_equiv forbidden.laws-law)))) };
+
+    fn eq(&self, other: &Space) -> bool {
+        self.params == other.params
+            && self.conditions == other.conditions
+            && self.forbidden == other.forbidden
+    }
+}
+
+impl Eq for Space {
+    ghost use Rattle.std.proofs.lemmas.Cmp.{and_equiv, on_equiv, lists_equiv};
+    ghost use Rattle.param_space.specs.contracts.lists.ParamEq.TheImpl.Laws as param;
+    ghost use Rattle.param_space.specs.contracts.lists.ConditionEq.TheImpl.Laws as condition;
+    ghost use Rattle.param_space.specs.contracts.lists.ForbiddenEq.TheImpl.Laws as forbidden;
+
+    ghost laws = { and_equiv (on_equiv (λ s. s.params) (lists_equiv param.laws-law)) (and_equiv (on_equiv (λ s. s.conditions) (lists_equiv condition.laws-law)) (on_equiv (λ s. s.forbidden) (lists_equiv forbidden.laws-law))) };
+}
+
 impl Space {
     /// The space of these lists, or their first fault: of the parameters, the conditions and
     /// the forbidden clauses, each in order; then the first condition whose child is its own

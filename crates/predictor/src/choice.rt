@@ -1,7 +1,7 @@
 //! Wishes in the making.
-ghost use Rattle.std.specs.Prelude.{◌≡◌, suc, [], IfOk, OnOk, if◌then◌else◌};
+ghost use Rattle.std.specs.Prelude.{◌≡◌, [], IfOk, OnOk, if◌then◌else◌};
 ghost use Rattle.run_cache.specs.Knowledge;
-ghost use Rattle.run_cache.specs.Caches.{known_at, known_in, is_at as is_cell_at};
+ghost use Rattle.run_cache.specs.Caches.{known_in, is_at as is_cell_at};
 ghost use Rattle.predictor.specs.Choices as choices;
 ghost use Rattle.predictor.specs.Choices.{run_of, with_wish, with_runs};
 ghost use Rattle.predictor.specs.Wishes.{runs_after};
@@ -9,7 +9,7 @@ ghost use Rattle.predictor.specs.Wishes.{runs_after};
 use crate::wish::Wish;
 use objective::{Memory, Micros};
 use param_space::Config;
-use run_cache::{Cache, Cell, Known};
+use run_cache::{Cache, Cell, Known, known_next};
 use std::alloc::Global;
 use std::marker::Model;
 
@@ -18,27 +18,6 @@ fn is_at(cell: &Cell, config: &Config, place: u32) -> bool
     ensures { result ≡ is_cell_at cell.now config.now place }
 {
     cell.place == place && config.values() == cell.config.values()
-}
-
-/// What is known of the place after so many.
-fn known_after(row: &[Known], done: u32) -> Known
-    ensures { result ≡ known_at row.now (suc done) }
-{
-    match row.get(done as usize) {
-        Some(known) => *known,
-        None => Known::Nothing,
-    }
-}
-
-/// Whether a run with this cutoff would tell nothing more.
-fn is_settled(known: Known, cutoff: Micros) -> bool
-    ensures { result ≡ Knowledge.is_settled known cutoff.0 }
-{
-    match known {
-        Known::Nothing => false,
-        Known::Over(time) => cutoff.0 <= time.0,
-        Known::Exact(_) | Known::Abort => true,
-    }
 }
 
 /// The wishes so far, at most so many, beside a cell that is needed.
@@ -123,7 +102,7 @@ impl Choice {
     ) -> Result<(), Memory>
         ensures { OnOk result (self.new ≡ (if Knowledge.is_settled known cutoff.0 then self.old else with_wish self.old (run_of config.now place cutoff.0))) }
     {
-        if is_settled(known, cutoff) {
+        if known.is_settled(cutoff) {
             return Ok(());
         }
         self.add(config, place, cutoff)
@@ -146,7 +125,7 @@ impl Choice {
             if !self.has_room() {
                 return Ok(());
             }
-            self.add_unsettled(known_after(row, done), config, done + 1, cutoff)?;
+            self.add_unsettled(known_next(row, done), config, done + 1, cutoff)?;
         }
         Ok(())
     }

@@ -1,4 +1,8 @@
 //! What is known of a cell, and what comes of a further run.
+ghost use Rattle.std.specs.Prelude.{◌≡◌, suc};
+ghost use Rattle.run_cache.specs.Caches;
+ghost use Rattle.run_cache.specs.Knowledge;
+
 use objective::{Micros, Sum};
 
 /// What is known of a cell.
@@ -12,6 +16,29 @@ pub enum Known {
     Exact(Sum),
     /// A run asked for the end of the tuning.
     Abort,
+}
+
+impl Known {
+    /// Whether a run with this cutoff would tell nothing more.
+    pub fn is_settled(self, cutoff: Micros) -> bool
+        ensures { result ≡ Knowledge.is_settled self cutoff.0 }
+    {
+        match self {
+            Known::Nothing => false,
+            Known::Over(time) => cutoff.0 <= time.0,
+            Known::Exact(_) | Known::Abort => true,
+        }
+    }
+}
+
+/// What a row knows of the place after so many.
+pub fn known_next(row: &[Known], done: u32) -> Known
+    ensures { result ≡ Caches.known_at row.now (suc done) }
+{
+    match row.get(done as usize) {
+        Some(known) => *known,
+        None => Known::Nothing,
+    }
 }
 
 /// What a run's answer adds to what is known.

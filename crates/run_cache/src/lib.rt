@@ -12,4 +12,4 @@ mod row;
 
 pub use cache::Cache;
 pub use cell::Cell;
-pub use known::{Known, Learnt};
+pub use known::{Known, Learnt, known_next};

@@ -1,5 +1,5 @@
 -- Due cutoffs of small asks.
-use Rattle.std.specs.Prelude.{ℕ, ◌≡◌, refl, [], ◌∷◌, Some, None}
+use Rattle.std.specs.Prelude.{◌≡◌, refl, [], ◌∷◌, Some, None}
 use Rattle.objective.specs.Bounds.{Bounds}
 use Rattle.objective.specs.Costs.{Table}
 use Rattle.objective.specs.declared.Factor.TheVariants.{One}

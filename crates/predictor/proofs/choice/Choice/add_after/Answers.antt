@@ -13,6 +13,6 @@ returns-then-not-has_room c =
 pub loop-done-preserved : goal.loop-done-preserved
 loop-done-preserved c = record {
   same = next_in_row c.args.cache.now c.loop-done.self c.add_unsettled.new.self c.args.config.now c.args.cutoff.0 c.loop-done.done c.args.last
-      c.row-row.result.now c.known_after.result (omega arith) c.row-row.ensures.value c.known_after.ensures (c.in_ok-add_unsettled.ensures)
+      c.row-row.result.now c.known_next.result (omega arith) c.row-row.ensures.value c.known_next.ensures (c.in_ok-add_unsettled.ensures)
       ∙ c.loop-done.invariant.same;
 }
