@@ -1,7 +1,10 @@
 mod TicketEnds
+mod Standings
 mod Halts
 mod PresentPhases
+mod FreshWishes
 mod NoWishes
 mod Offers
+mod GivenBoards
 mod MarkedBoards
 mod ShownEndings

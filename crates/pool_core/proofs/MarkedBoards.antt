@@ -53,6 +53,14 @@ module _ (shown : Rules → List Reply → View) where
   unfolding marked_on plain
   count-as b f is = ap (λ u. length (mark_events u b.live)) is
 
+  -- a board after marking what isn't wanted where it stands so
+  pub marked-by : (b : BoardState) (p : Phase) → p ≡ phase_of shown (plain b) → marked_board (plain b) (is_unwanted_by shown (plain b) p) ≡ after_mark shown (plain b)
+  marked-by b p is = marked-as (plain b) (is_unwanted_by shown (plain b) p) (unwanted-as (plain b) p is)
+
+  -- how many are newly marked then
+  pub count-by : (b : BoardState) (p : Phase) → p ≡ phase_of shown (plain b) → length (mark_events (is_unwanted_by shown (plain b) p) b.live) ≡ marked_on shown (plain b)
+  count-by b p is = count-as b (is_unwanted_by shown (plain b) p) (unwanted-as (plain b) p is)
+
   -- nothing is marked
   pub marked-none : (b : PlainBoard) → none_unwanted ≡ is_unwanted shown b → b ≡ after_mark shown b
   marked-none b is = (λ i. record b { live = sym (none-marked b.live) i; journal = (sym (append-nil b.journal) ∙ ap (λ es. b.journal ++ es) (sym (no-events b.live))) i }) ∙ marked-as b none_unwanted is

@@ -52,12 +52,26 @@ impl<P: Search, S: Spawner> Board<P, S> {
         self.ledger.make_room()?;
         self.search.answer(reply)?;
         self.wishes = wishes;
+        self.fresh = true;
         self.ledger.advance();
         Ok(Advanced::Moved)
     }
 
-    /// Makes the wishes anew where a run is needed.
+    /// Sees to the wishes where a run is needed: those that are fresh are kept.
     fn wish(&mut self, place: u32, cutoff: Micros) -> Result<Advanced, Memory>
+        requires { phase_of P.shown (plain self.old) ≡ Phase.Open (Verdict.Need place cutoff) }
+        ensures answer { IfOk result (λ a. a ≡ Advanced.Waits) }
+        ensures board { OnOk result (plain self.new ≡ with_wishes P.shown (plain self.old)) }
+        ensures err { OnErr result (self.new ≡ self.old) }
+    {
+        if self.fresh {
+            return Ok(Advanced::Waits);
+        }
+        self.wish_anew(place, cutoff)
+    }
+
+    /// Makes the wishes anew where a run is needed.
+    fn wish_anew(&mut self, place: u32, cutoff: Micros) -> Result<Advanced, Memory>
         requires { phase_of P.shown (plain self.old) ≡ Phase.Open (Verdict.Need place cutoff) }
         ensures answer { IfOk result (λ a. a ≡ Advanced.Waits) }
         ensures board { OnOk result (plain self.new ≡ with_wishes P.shown (plain self.old)) }
@@ -67,10 +81,12 @@ impl<P: Search, S: Spawner> Board<P, S> {
         let others = others(&self.problem);
         let wishes = wishes_now(alloc, &self.search, &self.cache, others)?;
         if same_wishes(&self.wishes, &wishes) {
+            self.fresh = true;
             return Ok(Advanced::Waits);
         }
         self.ledger.make_room()?;
         self.wishes = wishes;
+        self.fresh = true;
         self.ledger.advance();
         Ok(Advanced::Waits)
     }
@@ -86,6 +102,7 @@ impl<P: Search, S: Spawner> Board<P, S> {
         self.ledger.make_room()?;
         self.aborted = Some(cell);
         self.wishes.clear();
+        self.fresh = false;
         self.ledger.advance();
         Ok(Advanced::Aborted)
     }

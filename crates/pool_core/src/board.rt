@@ -1,5 +1,6 @@
 //! The board.
-ghost use Rattle.std.specs.Prelude.{◌≡◌, [], IfOk, IsSome, length};
+ghost use Rattle.std.specs.Prelude.{◌≡◌, ◌≢◌, [], All, IfOk, IsSome, length};
+ghost use Rattle.std.specs.List.{Contains};
 ghost use Rattle.run_cache.specs.Caches.{known_in};
 ghost use Rattle.board_steps.specs.Boards.{opening, plain};
 ghost use Rattle.board_steps.specs.BoardInvariant.{BoardInvariant};
@@ -9,7 +10,8 @@ ghost use Rattle.board_steps.specs.Phases.{phase_of, ask_on, asked_cell as cell_
 ghost use Rattle.board_steps.specs.Numbering.{IsRunnable};
 ghost use Rattle.ils_face.specs.Replies.{Fits};
 ghost use Rattle.ils_face.specs.Rules.{AreRules};
-ghost use Rattle.board_steps.specs.Tickets.{found_in, standing_of};
+ghost use Rattle.board_steps.specs.Ledgers.{unmarked};
+ghost use Rattle.board_steps.specs.Tickets.{found_in, marked, standing_of};
 ghost use Rattle.pool_core.specs.Endings.{IsEnding, ShowsEnding};
 
 use crate::present_asks::verdict_by;
@@ -42,6 +44,8 @@ pub struct Board<P: Search, S: Spawner> {
     pub(crate) search: P,
     pub(crate) cache: Cache,
     pub(crate) wishes: Vec<Wish>,
+    /// Whether making the wishes anew is known to change none.
+    pub(crate) fresh: bool,
     pub(crate) aborted: Option<Cell>,
     pub(crate) ledger: Ledger,
     pub(crate) of: PhantomData<S>,
@@ -55,7 +59,7 @@ impl<P: Search, S: Spawner> Model for Board<P, S> {
 
     ghost view = { λ b. state_of b.problem (P.replies_of b.search) b.cache b.wishes.items b.aborted b.ledger };
 
-    ghost invariant = { λ b. IsBoard P.shown P.plain S.truth (P.rules_of b.search) (state_of b.problem (P.replies_of b.search) b.cache b.wishes.items b.aborted b.ledger) };
+    ghost invariant = { λ b. IsBoard P.shown P.plain S.truth (P.rules_of b.search) b.fresh (state_of b.problem (P.replies_of b.search) b.cache b.wishes.items b.aborted b.ledger) };
 }
 
 /// A search by the rules of a problem.
@@ -88,6 +92,7 @@ impl<P: Search, S: Spawner> Board<P, S> {
             search,
             cache,
             wishes: Vec::new(alloc),
+            fresh: false,
             aborted: None,
             ledger,
             of: PhantomData,
@@ -139,8 +144,12 @@ impl<P: Search, S: Spawner> Board<P, S> {
 
     /// What the board says of a ticket. Takes no memory.
     pub fn standing(&self, ticket: &Ticket) -> Standing
-        ensures { result ≡ standing_of (found_in self.now.live ticket.now) }
+        ensures value { result ≡ standing_of (found_in self.now.live ticket.now) }
+        ensures live { result ≡ Standing.Live → Contains self.now.live (unmarked ticket.now) }
+        ensures marked { result ≡ Standing.Marked → Contains self.now.live (marked (unmarked ticket.now)) }
+        ensures stranger { result ≡ Standing.Stranger → All (λ l. l.ticket ≢ ticket.now) self.now.live }
     {
+        self.is_board(); // live tickets have different numbers
         self.ledger.standing(ticket)
     }
 

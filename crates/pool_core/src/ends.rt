@@ -46,6 +46,7 @@ impl<P: Search, S: Spawner> Board<P, S> {
                 let learnt = self
                     .cache
                     .learn(&l.ticket.cell, l.ticket.run.cutoff, answer);
+                self.fresh = false;
                 self.ledger.end(number, Event::Record { number, answer });
                 recorded_as(learnt)
             }

@@ -2,13 +2,14 @@
 ghost use Rattle.std.specs.Prelude.{◌≡◌, ◌||◌, OnOk, OnErr, length, nat_lt};
 ghost use Rattle.board_steps.specs.Boards.{plain};
 ghost use Rattle.board_steps.specs.Phases.{phase_of};
-ghost use Rattle.board_steps.specs.Steps.{after_mark, after_resume, after_stop, is_unwanted, marked_board, marked_on};
+ghost use Rattle.board_steps.specs.Steps.{after_mark, after_resume, after_stop, marked_board, marked_on};
 ghost use Rattle.board_steps.specs.Tickets.{all_unwanted, mark_events};
 
 use crate::board::Board;
+use crate::present_asks::asked_config;
 use board_steps::Phase;
 use capping::Verdict;
-use ils_face::{Ask, Search};
+use ils_face::Search;
 use objective::{Memory, Micros};
 use outside::Spawner;
 
@@ -40,15 +41,12 @@ impl<P: Search, S: Spawner> Board<P, S> {
     /// Marks the live tickets that aren't wanted where a run is needed.
     fn mark_beside(&mut self, place: u32, cutoff: Micros) -> usize
         requires { phase_of P.shown (plain self.old) ≡ Phase.Open (Verdict.Need place cutoff) }
-        ensures answer { result ≡ length (mark_events (is_unwanted P.shown (plain self.old)) self.old.live) }
-        ensures board { plain self.new ≡ marked_board (plain self.old) (is_unwanted P.shown (plain self.old)) }
+        ensures answer { result ≡ marked_on P.shown (plain self.old) }
+        ensures board { plain self.new ≡ after_mark P.shown (plain self.old) }
     {
         let wishes = self.wishes.as_slice();
-        match self.search.ask() {
-            Ask::Full { config, .. } => self.ledger.mark_beside(wishes, config, place, cutoff),
-            Ask::Versus { config, .. } => self.ledger.mark_beside(wishes, config, place, cutoff),
-            Ask::End => unreachable!(),
-        }
+        let config = asked_config(&self.search);
+        self.ledger.mark_beside(wishes, config, place, cutoff)
     }
 
     /// Marks every live ticket and gives no more. Takes no memory.

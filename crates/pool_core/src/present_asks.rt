@@ -1,5 +1,5 @@
 //! What is known makes of the present ask of a search, and what that makes likely.
-ghost use Rattle.std.specs.Prelude.{◌≡◌, ◌++◌, ◌∷◌, [], All, IfOk};
+ghost use Rattle.std.specs.Prelude.{◌≡◌, ◌≢◌, ◌++◌, ◌∷◌, [], All, IfOk};
 ghost use Rattle.std.specs.Cmp.Lexicographic.{pointwise};
 ghost use Rattle.ils_face.specs.Replies.{Fits};
 ghost use Rattle.run_cache.specs.Caches.{known_in};
@@ -9,7 +9,6 @@ ghost use Rattle.board_steps.specs.Numbering.{IsRunnable};
 ghost use Rattle.board_steps.specs.Phases.{config_of, IfReplies, IfNeeds};
 ghost use Rattle.board_steps.specs.Steps.{same_wish};
 
-use board_steps::same_cell;
 use capping::{Verdict, decide};
 use ils_face::{Ask, Reply, Search};
 use objective::Memory;
@@ -26,6 +25,18 @@ pub(crate) fn verdict_by<P: Search>(search: &P, cache: &Cache) -> Verdict
     ensures runnable { IfNeeds result (λ place cutoff. IsRunnable (P.rules_of search.now) (record { config = config_of (P.shown (P.rules_of search.now) (P.replies_of search.now)).ask; place = place }) cutoff) }
 {
     decide(cache, search.ask())
+}
+
+/// The configuration of the present ask, which isn't the end.
+pub(crate) fn asked_config<P: Search>(search: &P) -> &Config
+    requires { (P.shown (P.rules_of search.now) (P.replies_of search.now)).ask ≢ Ask.End }
+    ensures { result.now ≡ config_of (P.shown (P.rules_of search.now) (P.replies_of search.now)).ask }
+{
+    match search.ask() {
+        Ask::Full { config, .. } => config,
+        Ask::Versus { config, .. } => config,
+        Ask::End => unreachable!(),
+    }
 }
 
 /// The cell of the present ask's configuration at a place.
@@ -79,24 +90,9 @@ pub(crate) fn wishes_after<P: Search>(
     wishes_now(alloc, &ahead, cache, k)
 }
 
-/// Whether two wishes are the same.
-fn same_wish_as(one: &Wish, other: &Wish) -> bool
-    ensures { result ≡ same_wish one.now other.now }
-{
-    same_cell(&one.cell, &other.cell) && one.cutoff.0 == other.cutoff.0
-}
-
 /// Whether the wishes are the same.
 pub(crate) fn same_wishes(left: &[Wish], right: &[Wish]) -> bool
     ensures { result ≡ pointwise same_wish left.now right.now }
 {
-    if left.len() != right.len() {
-        return false;
-    }
-    for i in 0..left.len() {
-        if !same_wish_as(&left[i], &right[i]) {
-            return false;
-        }
-    }
-    true
+    left == right
 }

@@ -2,7 +2,6 @@
 ghost use Rattle.std.specs.Prelude.{◌≡◌, ◌≤◌, false, IfOk, OnOk, OnErr, IfSome, length};
 ghost use Rattle.std.specs.List.{find, position_or_len};
 ghost use Rattle.objective.specs.Limits.{max_runs};
-ghost use Rattle.run_cache.specs.Knowledge;
 ghost use Rattle.board_steps.specs.Boards.{plain};
 ghost use Rattle.board_steps.specs.Numbering.{IsRunnable};
 ghost use Rattle.board_steps.specs.Phases.{asked_cell as cell_on, phase_of};
@@ -17,19 +16,8 @@ use ils_face::Search;
 use objective::{Memory, Micros};
 use outside::Spawner;
 use predictor::Wish;
-use run_cache::{Cell, Known};
+use run_cache::Cell;
 use wrapper_lines::Run;
-
-/// Whether a run with this cutoff would tell nothing more.
-fn is_settled(known: Known, cutoff: Micros) -> bool
-    ensures { result ≡ Knowledge.is_settled known cutoff.0 }
-{
-    match known {
-        Known::Nothing => false,
-        Known::Over(time) => cutoff.0 <= time.0,
-        Known::Exact(_) | Known::Abort => true,
-    }
-}
 
 impl<P: Search, S: Spawner> Board<P, S> {
     /// Gives a ticket: for the needed run, or where that is being made for one that may be needed
@@ -57,14 +45,28 @@ impl<P: Search, S: Spawner> Board<P, S> {
         ensures board { OnOk result (plain self.new ≡ after_take P.shown (plain self.old)) }
         ensures err { OnErr result (plain self.new ≡ plain self.old) }
     {
-        let needed = asked_cell(*self.wishes.allocator(), &self.search, place)?;
-        if !has_ticket(self.ledger.live(), &needed) {
+        let needed = self.needed_cell(place)?;
+        if !self.has_ticket(&needed) {
             return self.give(Kind::Asked, needed, cutoff);
         }
         match self.free_wish(&needed)? {
             None => Ok(Taken::Idle),
             Some(wish) => self.give(Kind::Ahead, wish.cell, wish.cutoff),
         }
+    }
+
+    /// The cell of the present ask at a place.
+    fn needed_cell(&self, place: u32) -> Result<Cell, Memory>
+        ensures { IfOk result (λ c. c ≡ cell_on P.shown (plain self.now) place) }
+    {
+        asked_cell(*self.wishes.allocator(), &self.search, place)
+    }
+
+    /// Whether a live ticket is of a cell.
+    fn has_ticket(&self, cell: &Cell) -> bool
+        ensures { result ≡ Tickets.has_ticket self.now.live cell.now }
+    {
+        has_ticket(self.ledger.live(), cell)
     }
 
     /// Whether a seat may run ahead for a wish, beside the needed cell.
@@ -75,7 +77,7 @@ impl<P: Search, S: Spawner> Board<P, S> {
         !has_ticket(self.ledger.live(), &wish.cell)
             && !has_cell(self.ledger.shunned(), &wish.cell)
             && !same_cell(needed, &wish.cell)
-            && !is_settled(self.cache.known(&wish.cell), wish.cutoff)
+            && !self.cache.known(&wish.cell).is_settled(wish.cutoff)
     }
 
     /// The place of the first of these wishes that a seat may run ahead for, or how many they are.

@@ -1,4 +1,4 @@
-use Rattle.std.proofs.Common.{◌≡◌, sym, subst}
+use Rattle.std.proofs.Common.{◌≡◌, true, false, sym, subst}
 use Rattle.board_steps.specs.Boards.{BoardState, plain, state_of}
 use Rattle.board_steps.specs.Phases.{phase_of}
 use Rattle.capping.specs.declared.verdicts.Verdict.TheVariants as verdict
@@ -16,6 +16,7 @@ invariant_of-self-2 g c =
     let cell = asked-now g.P.Search.shown b (g.P.Search.rules_of i.search) c.in_ok-cell.cell c.args.place c.self.invariant.rules_same c.in_ok-cell.ensures in
     record {
       rules_same = c.self.invariant.rules_same;
+      wished = λ is. absurd (let e : false ≡ true = is in cc);
       board = rw (c.advance.ensures, c.make_room.ensures.same, c.clear.ensures.items) (step-abort g.P.Search.shown g.P.Search.plain g.S.Spawner.truth b c.args.place c.in_ok-cell.cell stands cell c.self.invariant.board).kept;
     }
 

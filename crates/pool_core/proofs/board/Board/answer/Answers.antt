@@ -5,6 +5,7 @@ use Rattle.ils_face.specs.Replies.{Fits}
 use Rattle.capping.specs.declared.verdicts.Verdict.TheVariants as verdict
 use Rattle.board_steps.specs.declared.answers.Phase.TheVariants as phase
 use Rattle.board_steps.proofs.KeptBoards.{step-reply}
+use Rattle.pool_core.proofs.FreshWishes.{wished-after}
 use Rattle.pool_core.proofs.PresentPhases.{fits-now, wished-now, wishes-runnable}
 use Rattle.pool_core.proofs.board.Board.answer.Goals as goal
 
@@ -37,6 +38,7 @@ invariant_of-self-2 g c =
     let step = step-reply g.P.Search.shown g.P.Search.plain g.S.Spawner.truth g.met.P.Search.follows b r items stands wished runnable c.self.invariant.board in
     record {
       rules_same = c.answer.ensures.rules ∙ c.self.invariant.rules_same;
+      wished = rw c.in_ok-answer.ensures.taken (λ is. wished-after g.P.Search.shown b after items wished);
       board = rw (c.advance.ensures, c.make_room.ensures.same, c.in_ok-answer.ensures.taken) step.kept;
     }
 

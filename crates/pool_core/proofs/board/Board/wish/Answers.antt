@@ -1,51 +1,9 @@
-use Rattle.std.proofs.Common.{◌≡◌, sym, ◌∙◌, subst}
-use Rattle.std.specs.Cmp.Lexicographic.{pointwise}
-use Rattle.board_steps.specs.Boards.{BoardState, plain, state_of}
-use Rattle.board_steps.specs.Phases.{phase_of}
-use Rattle.board_steps.specs.Steps.{same_wish}
-use Rattle.capping.specs.declared.verdicts.Verdict.TheVariants as verdict
-use Rattle.board_steps.specs.declared.answers.Phase.TheVariants as phase
-use Rattle.board_steps.proofs.KeptBoards.{step-wishes}
-use Rattle.pool_core.proofs.PresentPhases.{wished-same, wishes-runnable, wishes-stay}
+use Rattle.board_steps.specs.Boards.{state_of}
+use Rattle.pool_core.proofs.FreshWishes.{wishes-fresh}
 use Rattle.pool_core.proofs.board.Board.wish.Goals as goal
 
-pub returns-then-same_wishes-clause-board : goal.returns-then-same_wishes-clause-board
-returns-then-same_wishes-clause-board g c =
+pub returns-then-self-clause-board : goal.returns-then-self-clause-board
+returns-then-self-clause-board g c =
     let i = c.self.inside in
     let b = state_of i.problem (g.P.Search.replies_of i.search) i.cache i.wishes.items i.aborted i.ledger in
-    let rules = g.P.Search.rules_of i.search in
-    let items = c.in_ok-wishes.wishes.items in
-    let wished = wished-same g.P.Search.shown b rules items c.others-others.result c.self.invariant.rules_same c.self.invariant.board.limits c.others-others.ensures c.in_ok-wishes.ensures.value in
-    let compared = c.same_wishes.ensures ∙ (λ j. pointwise same_wish (c.deref.ensures.value j) (c.deref-2.ensures.value j)) in
-    rw (← c.self.view_is) (wishes-stay g.P.Search.shown b items wished (sym compared ∙ c.if-same_wishes.true))
-
-pub invariant_of-self-2 : goal.invariant_of-self-2
-invariant_of-self-2 g c =
-    let i = c.self.inside in
-    let b = state_of i.problem (g.P.Search.replies_of i.search) i.cache i.wishes.items i.aborted i.ledger in
-    let rules = g.P.Search.rules_of i.search in
-    let items = c.in_ok-wishes.wishes.items in
-    let wished = wished-same g.P.Search.shown b rules items c.others-others.result c.self.invariant.rules_same c.self.invariant.board.limits c.others-others.ensures c.in_ok-wishes.ensures.value in
-    let compared = c.same_wishes.ensures ∙ (λ j. pointwise same_wish (c.deref.ensures.value j) (c.deref-2.ensures.value j)) in
-    let S : BoardState → Type 0 = λ x. phase_of g.P.Search.shown (plain x) ≡ phase.Open (verdict.Need c.args.place c.args.cutoff) in
-    let stands = subst S (sym c.self.view_is) c.requires in
-    let runnable = wishes-runnable rules i.problem.rules items c.self.invariant.rules_same c.in_ok-wishes.ensures.runnable in
-    let step = step-wishes g.P.Search.shown g.P.Search.plain g.S.Spawner.truth b c.args.place c.args.cutoff items stands wished (sym compared ∙ c.if-same_wishes.false) runnable c.self.invariant.board in
-    record {
-      rules_same = c.self.invariant.rules_same;
-      board = rw (c.advance.ensures, c.make_room.ensures.same) step.kept;
-    }
-
-pub returns-clause-board : goal.returns-clause-board
-returns-clause-board g c =
-    let i = c.self.inside in
-    let b = state_of i.problem (g.P.Search.replies_of i.search) i.cache i.wishes.items i.aborted i.ledger in
-    let rules = g.P.Search.rules_of i.search in
-    let items = c.in_ok-wishes.wishes.items in
-    let wished = wished-same g.P.Search.shown b rules items c.others-others.result c.self.invariant.rules_same c.self.invariant.board.limits c.others-others.ensures c.in_ok-wishes.ensures.value in
-    let compared = c.same_wishes.ensures ∙ (λ j. pointwise same_wish (c.deref.ensures.value j) (c.deref-2.ensures.value j)) in
-    let S : BoardState → Type 0 = λ x. phase_of g.P.Search.shown (plain x) ≡ phase.Open (verdict.Need c.args.place c.args.cutoff) in
-    let stands = subst S (sym c.self.view_is) c.requires in
-    let runnable = wishes-runnable rules i.problem.rules items c.self.invariant.rules_same c.in_ok-wishes.ensures.runnable in
-    let step = step-wishes g.P.Search.shown g.P.Search.plain g.S.Spawner.truth b c.args.place c.args.cutoff items stands wished (sym compared ∙ c.if-same_wishes.false) runnable c.self.invariant.board in
-    rw (c.advance.ensures, c.make_room.ensures.same, ← c.self.view_is) step.plain_is
+    rw (← c.self.view_is) (wishes-fresh g.P.Search.shown b (c.self.invariant.wished c.if-self.true))
