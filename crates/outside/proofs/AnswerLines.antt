@@ -68,7 +68,7 @@ said time = codes " SAT, " ++ (time ++ codes ", 0, 0, 0")
 line_of : List ℕ → List ℕ
 line_of time = codes "Result for ParamILS:" ++ said time
 
-result_line-ended : (t : ℕ) → result_line (codes "SAT") t ≡ line_of (seconds t) ++ 10 ∷ []
+result_line-ended : (t : ℕ) → result_line (codes "SAT") (seconds t) ≡ line_of (seconds t) ++ 10 ∷ []
 unfolding line_of said
 result_line-ended t = ap (λ rest. codes "Result for ParamILS: SAT, " ++ rest) (sym (append_assoc (seconds t) (codes ", 0, 0, 0") (10 ∷ [])))
 
@@ -113,7 +113,7 @@ answer_of-line_of time cutoff h =
     ∙ answer_in-one time cutoff
     ∙ (λ i. answer_by cutoff (first_field-said time i) (micros_read (second_field-said time h i)))
 
-answer_of-SAT : (t cutoff : ℕ) → t < 2 ^ 64 → answer_of (result_line (codes "SAT") t) cutoff ≡ solved_after cutoff (Ok (record { 0 = t }))
+answer_of-SAT : (t cutoff : ℕ) → t < 2 ^ 64 → answer_of (result_line (codes "SAT") (seconds t)) cutoff ≡ solved_after cutoff (Ok (record { 0 = t }))
 answer_of-SAT t cutoff small =
     ap (λ output. answer_of output cutoff) (result_line-ended t)
     ∙ answer_of-line_of (seconds t) cutoff (seconds-time_bytes t small)

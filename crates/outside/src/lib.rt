@@ -2,6 +2,7 @@
 //! what is built on them, and implementations in memory.
 #![tactic(auto)]
 
+mod answer_lines;
 mod course;
 mod faults;
 mod files;
@@ -15,6 +16,7 @@ mod table;
 mod table_seat;
 mod whole_pieces;
 
+pub use answer_lines::output_of;
 pub use course::Script;
 pub use faults::{Fail, Fault, Poll};
 pub use files::Files;

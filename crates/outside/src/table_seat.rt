@@ -1,20 +1,18 @@
 //! A seat in memory whose runs do what a table says.
 ghost use Rattle.std.specs.Prelude.{◌≡◌, Some, IfOk};
-ghost use Rattle.objective.specs.Costs;
-ghost use Rattle.wrapper_lines.specs.ResultLines.{answer_of};
-ghost use Rattle.outside.specs.AnswerLines.{result_line, answer_line};
 ghost use Rattle.outside.specs.Courses.{first_course};
 ghost use Rattle.outside.specs.Seats.{Reads, told_first};
 
+use crate::answer_lines::output_of;
 use crate::course::{Course, Script};
 use crate::faults::{Fail, Fault, Poll};
 use crate::spawner::Spawner;
 use crate::table::Table;
-use objective::{Answer, Memory, Micros, seen};
-use plain_text::{Items, Text, seconds_text};
+use objective::Memory;
+use plain_text::{Items, Text};
 use std::alloc::Global;
 use std::marker::{Model, PhantomData};
-use wrapper_lines::{Key, Run, copy_texts};
+use wrapper_lines::{Run, copy_texts};
 
 /// Where the child of a seat stands.
 #[derive(Clone, Copy)]
@@ -62,27 +60,6 @@ impl<T: Table> Model for TableSeat<T> {
     ghost invariant = { λ s. Tells T.outcome s.place s.child };
 }
 
-/// The result line with this word and this time.
-fn result_text(alloc: Global, word: &str, time: Micros) -> Result<Text, Memory>
-    ensures { IfOk result (λ t. t ≡ result_line word.now time.0) }
-{
-    let seconds = seconds_text(alloc, time.0)?;
-    let seconds = seconds.as_str();
-    Ok(Text::new(format!(in alloc; "Result for ParamILS: {word}, {seconds}, 0, 0, 0\n")?))
-}
-
-/// The result line that shows an answer.
-fn line_text(alloc: Global, answer: Answer) -> Result<Text, Memory>
-    ensures { IfOk result (λ t. t ≡ answer_line answer) }
-{
-    match answer {
-        Answer::Solved(time) => result_text(alloc, "SAT", time),
-        Answer::Timeout => result_text(alloc, "TIMEOUT", Micros(0)),
-        Answer::Crashed => result_text(alloc, "CRASHED", Micros(0)),
-        Answer::Abort => result_text(alloc, "ABORT", Micros(0)),
-    }
-}
-
 /// Stores a value in place of the one before.
 fn store<V: Drop>(place: &mut V, value: V)
     ensures { place.new ≡ value }
@@ -97,13 +74,6 @@ fn spare_of(child: Child) -> Option<Run>
     child.spare
 }
 
-/// The output of a run that does what the table says.
-fn told_output<T: Table>(alloc: Global, key: &Key, cutoff: Micros) -> Result<Text, Memory>
-    ensures { IfOk result (λ t. answer_of t cutoff.0 ≡ Costs.seen (T.outcome key.now) cutoff.0) }
-{
-    line_text(alloc, seen(T::outcome(key), cutoff))
-}
-
 /// The child of a run that does what the table says.
 fn told_child<T: Table>(alloc: Global, run: &Run) -> Result<Child, Memory>
     ensures run { IfOk result (λ c. c.run ≡ run.now) }
@@ -111,7 +81,7 @@ fn told_child<T: Table>(alloc: Global, run: &Run) -> Result<Child, Memory>
     ensures output { IfOk result (λ c. Reads T.outcome c) }
 {
     let (copy, spare) = (run.copy()?, run.copy()?);
-    let output = told_output::<T>(alloc, &copy.key, copy.cutoff)?;
+    let output = output_of(alloc, T::outcome(&copy.key), copy.cutoff)?;
     Ok(Child {
         run: copy,
         spare: Some(spare),
