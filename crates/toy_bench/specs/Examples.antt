@@ -1,0 +1,2 @@
+pub mod ToyRuns
+pub mod ToyFiles
