@@ -1,0 +1,236 @@
+-- What each turn of a drive makes of what was made before, and what a drive comes to where it ends.
+use Rattle.std.proofs.Common.{ℕ, ◌≡◌, ◌++◌, ◌||◌, ◌⊎◌, Bool, true, false, List, [], ◌∷◌, Option, Some, None, All, refl, sym, ap, subst, ◌∙◌, inl, inr, if◌then◌else◌}
+use Rattle.std.specs.Prelude.{IfSome, IsSome, IsSomeAnd}
+use Rattle.std.specs.Option.{is_some}
+use Rattle.std.proofs.lemmas.List.Elements.{All-head}
+use Rattle.objective.specs.Costs.{Table}
+use Rattle.objective.specs.declared.Micros.{Micros}
+use Rattle.objective.specs.declared.Outcome.{Outcome}
+use Rattle.wrapper_lines.specs.declared.runs.Key.{Key}
+use Rattle.wrapper_lines.specs.declared.runs.Program.{Program}
+use Rattle.uncapped.specs.Uncapped.{Run}
+use Rattle.ils_face.specs.declared.asks.Ask.{Ask}
+use Rattle.ils_face.specs.declared.asks.Ask.TheVariants.{Full, Versus, End}
+use Rattle.ils_face.specs.declared.asks.Reply.{Reply}
+use Rattle.ils_face.specs.Rules.{Rules}
+use Rattle.ils_face.specs.Views.{View}
+use Rattle.run_cache.specs.declared.cell.Cell.{Cell}
+use Rattle.capping.specs.declared.verdicts.Verdict.{Verdict}
+use Rattle.capping.specs.declared.verdicts.Verdict.TheVariants as verdict
+use Rattle.capping.specs.Decisions.{OnEnded}
+use Rattle.capping.specs.Verdicts.{verdict_of}
+use Rattle.capping.proofs.Promises.{ended}
+use Rattle.board_steps.specs.BoardInvariant.{BoardInvariant}
+use Rattle.board_steps.specs.Boards.{BoardState, PlainBoard, plain}
+use Rattle.board_steps.specs.declared.answers.Phase.TheVariants as phase
+use Rattle.board_steps.specs.declared.answers.Taken.TheVariants as taken
+use Rattle.board_steps.specs.declared.tickets.Kind.TheVariants.{Asked}
+use Rattle.board_steps.specs.declared.tickets.LiveTicket.{LiveTicket}
+use Rattle.board_steps.specs.declared.tickets.Ticket.{Ticket}
+use Rattle.board_steps.specs.Numbering.{IsTicket, tickets_of}
+use Rattle.board_steps.specs.Phases.{ask_on, asked_cell, phase_by, phase_of, verdict_on}
+use Rattle.board_steps.specs.Problem.{Problem}
+use Rattle.board_steps.specs.Steps.{ticket_for, taken_on, with_ticket, with_end, with_loss, after_lost, stopped_board, after_stop}
+use Rattle.board_steps.specs.Tickets.{has_ticket, found_in}
+use Rattle.board_steps.proofs.GivenTickets.{verdict-open, IsNeededTicket, IsAheadTicket, given}
+use Rattle.pool_run.specs.Drives.{IsAskedTicket, HasMade, is_end, is_over}
+use Rattle.pool_run.specs.Seats.{SeatState, last_of, fault_of}
+use Rattle.pool_run.specs.Turns.{TookTicket, StayedIdle, is_done}
+use Rattle.pool_run.proofs.MadeRuns.{alone, made-none, made-still, made-ticket}
+use Rattle.pool_run.proofs.StartedRuns.{last-more}
+use Rattle.pool_run.proofs.TurnSteps.{none-live}
+
+-- a seat that took a ticket has a last one
+pub some-last : (shown : Rules → List Reply → View) (b b' : PlainBoard) (seat s : SeatState) → TookTicket shown b b' seat s → IsSome (last_of s.tickets)
+some-last shown b b' seat s took =
+    let last : last_of s.tickets ≡ Some took.ticket = ap (λ x. last_of x.tickets) took.list ∙ last-more seat.tickets took.ticket in
+    let P : Option Ticket → Type 0 = λ o. IsSome o in
+    subst P (sym last) refl
+
+-- what holds of the one there is
+then-some : {X : Type 0} (o : Option X) (P : X → Type 0) (x : X) → o ≡ Some x → P x → IsSomeAnd o P
+then-some o P x is holds = let Q : Option _ → Type 0 = λ y. IsSomeAnd y P in subst Q (sym is) holds
+
+-- ---- where a search is at its end
+
+-- the fields by which a board is at its end
+abbrev pub over_by : (Rules → List Reply → View) → Problem → List Reply → Option Cell → Bool
+over_by shown problem replies aborted = is_some aborted || is_end (shown problem.rules replies).ask
+
+-- the problem, the replies and the aborted cell are the same
+pub record KeepsSearch (b c : PlainBoard) : Type 0 where
+  pub problem : c.problem ≡ b.problem
+  pub replies : c.replies ≡ b.replies
+  pub aborted : c.aborted ≡ b.aborted
+
+pub search-lost : (b : PlainBoard) (t : Ticket) → KeepsSearch b (after_lost b t)
+unfolding after_lost with_loss
+search-lost b t = by (found_in b.live t)
+  where
+    by : (o : Option LiveTicket) → KeepsSearch b (with_end (with_loss b) b o)
+    by None = record { problem = refl; replies = refl; aborted = refl }
+    by (Some l) = record { problem = refl; replies = refl; aborted = refl }
+
+pub search-stop : (b : PlainBoard) → KeepsSearch b (after_stop b)
+unfolding after_stop
+search-stop b = by b.stopped
+  where
+    by : (stopped : Bool) → KeepsSearch b (if stopped then b else stopped_board b)
+    by true = record { problem = refl; replies = refl; aborted = refl }
+    by false = record { problem = refl; replies = refl; aborted = refl }
+
+-- a search that is at its end is asked for nothing, and another for something
+pub end-decides : (ask : Ask) → is_end ask ≡ true → ask ≡ End
+end-decides (Full θ n) ends = absurd (let e : false ≡ true = ends in cc)
+end-decides (Versus θ n bound) ends = absurd (let e : false ≡ true = ends in cc)
+end-decides End ends = refl
+
+module _ (shown : Rules → List Reply → View) where
+  pub over-same : (b c : PlainBoard) → KeepsSearch b c → over_by shown c.problem c.replies c.aborted ≡ over_by shown b.problem b.replies b.aborted
+  over-same b c same = λ i. over_by shown (same.problem i) (same.replies i) (same.aborted i)
+
+  -- an ask whose run is needed isn't the end
+  ask-needs : (b : PlainBoard) (place : ℕ) (cutoff : Micros) → verdict_on shown b ≡ verdict.Need place cutoff → is_end (ask_on shown b) ≡ false
+  unfolding verdict_on
+  ask-needs b place cutoff needs = by (ask_on shown b) needs
+    where
+      by : (ask : Ask) → verdict_of b.problem.rules.limits b.known ask ≡ verdict.Need place cutoff → is_end ask ≡ false
+      by (Full θ n) e = refl
+      by (Versus θ n bound) e = refl
+      by End e = absurd (cc)
+
+  -- where an open board stands it isn't stopped, and no cell is set as aborted
+  record IsOpen (b : PlainBoard) : Type 0 where
+    going : b.stopped ≡ false
+    none : is_some b.aborted ≡ false
+
+  open-parts : (b : PlainBoard) (v : Verdict) → phase_of shown b ≡ phase.Open v → IsOpen b
+  unfolding phase_of
+  open-parts b v stands = by b.stopped b.aborted refl refl stands
+    where
+      by : (stopped : Bool) (aborted : Option Cell) → b.stopped ≡ stopped → b.aborted ≡ aborted
+          → (if stopped then phase.Stopped else phase_by shown b aborted) ≡ phase.Open v → IsOpen b
+      by true aborted s a e = absurd (cc)
+      by false (Some cell) s a e = absurd (cc)
+      by false None s a e = record { going = s; none = ap is_some a }
+
+  -- a board that needs a run isn't at its end
+  needs-more : (b : PlainBoard) (place : ℕ) (cutoff : Micros) → phase_of shown b ≡ phase.Open (verdict.Need place cutoff)
+      → over_by shown b.problem b.replies b.aborted ≡ false
+  needs-more b place cutoff stands =
+      let none = (open-parts b (verdict.Need place cutoff) stands).none in
+      let more = ask-needs b place cutoff (verdict-open shown b (verdict.Need place cutoff) stands) in
+      (λ i. none i || more i)
+
+  -- a board that is done and isn't stopped is at its end
+  pub done-over : (b : PlainBoard) → is_done (phase_of shown b) ≡ true → b.stopped ≡ false → over_by shown b.problem b.replies b.aborted ≡ true
+  unfolding phase_of verdict_on
+  done-over b done going = by_abort b.aborted (ap (λ s. is_done (if s then phase.Stopped else phase_by shown b b.aborted)) (sym going) ∙ done)
+    where
+      by_verdict : (ask : Ask) (v : Verdict) → OnEnded v (ask ≡ End) → is_done (phase.Open v) ≡ true → is_end ask ≡ true
+      by_verdict ask (verdict.Reply r) ended e = absurd (let f : false ≡ true = e in cc)
+      by_verdict ask (verdict.Need place cutoff) ended e = absurd (let f : false ≡ true = e in cc)
+      by_verdict ask (verdict.Aborted place) ended e = absurd (let f : false ≡ true = e in cc)
+      by_verdict ask verdict.Ended ended e = ap is_end ended
+
+      by_ask : (ask : Ask) → is_done (phase.Open (verdict_of b.problem.rules.limits b.known ask)) ≡ true → is_end ask ≡ true
+      by_ask ask e = by_verdict ask (verdict_of b.problem.rules.limits b.known ask) (ended b.problem.rules.limits b.known ask) e
+
+      by_abort : (o : Option Cell) → is_done (phase_by shown b o) ≡ true → (is_some o || is_end (ask_on shown b)) ≡ true
+      by_abort (Some cell) e = refl
+      by_abort None e = by_ask (ask_on shown b) e
+
+-- ---- the state of a drive between two turns
+
+-- no ticket is live, the board isn't stopped, no fault is kept, and this was made so far
+pub record IsUnderWay (program : Program) (board board' : BoardState) (seat seat' : SeatState) : Type 0 where
+  pub free : board'.live ≡ []
+  pub going : board'.stopped ≡ false
+  pub sound : seat'.failed ≡ false
+  pub made : HasMade program [] (plain board) (plain board') seat.told seat'.told seat.tickets seat'.tickets
+
+-- at the beginning
+pub underway-begin : (program : Program) (board : BoardState) (seat seat' : SeatState) → board.live ≡ [] → board.stopped ≡ false
+    → seat' ≡ record seat { failed = false; short = false } → IsUnderWay program board board seat seat'
+underway-begin program board seat seat' free going dropped =
+    let P : SeatState → Type 0 = λ s. IsUnderWay program board board seat s in
+    subst P (sym dropped) (record { free = free; going = going; sound = refl; made = made-none program (plain board) seat.told seat.tickets })
+
+-- a turn isn't idle then
+pub idle-never : (shown : Rules → List Reply → View) (program : Program) (board b : BoardState) (b' : PlainBoard) (seat s s' : SeatState)
+    → IsUnderWay program board b seat s → StayedIdle shown (plain b) b' s s' → ⊥
+unfolding plain
+idle-never shown program board b b' seat s s' way stayed = stayed.busy (ap tickets_of way.free)
+
+-- no fault is kept
+pub no-fault : (seat : SeatState) (P : Ticket → Type 0) → seat.failed ≡ false → IfSome (fault_of seat) P
+no-fault seat P sound =
+    let none : fault_of seat ≡ None = ap (λ f. if f then last_of seat.tickets else None) sound in
+    let Q : Option Ticket → Type 0 = λ o. IfSome o P in
+    subst Q (sym none) tt
+
+-- the fault that is kept
+pub kept-fault : (seat : SeatState) (t : Ticket) → seat.failed ≡ true → last_of seat.tickets ≡ Some t → fault_of seat ≡ Some t
+kept-fault seat t failed last = ap (λ f. if f then last_of seat.tickets else None) failed ∙ last
+
+-- a ticket that was taken for the needed run, which the seat has as its last one
+pub record HasTaken (shown : Rules → List Reply → View) (program : Program) (board b : BoardState) (seat old s : SeatState) (t : Ticket) : Type 0 where
+  pub made : HasMade program (t ∷ []) (plain board) (plain b) seat.told s.told seat.tickets s.tickets
+  pub live : (plain b).live ≡ alone t
+  pub going : (plain b).stopped ≡ false
+  pub more : is_over shown b ≡ false
+  pub asked : t.kind ≡ Asked
+  pub last : last_of s.tickets ≡ Some t
+  pub sound : s.failed ≡ old.failed
+
+module _ (shown : Rules → List Reply → View) where
+  -- without a live ticket only the needed run is given
+  needed-alone : (b : PlainBoard) (t : Ticket) → b.live ≡ [] → taken_on shown b ≡ taken.Ticket t → IsNeededTicket shown b t
+  unfolding has_ticket
+  needed-alone b t free offered = by (given shown b t offered)
+    where
+      by : IsNeededTicket shown b t ⊎ IsAheadTicket shown b t → IsNeededTicket shown b t
+      by (inl needed) = needed
+      by (inr ahead) =
+          let e : false ≡ true = sym (ap (λ live. has_ticket live (asked_cell shown b ahead.place)) free) ∙ ahead.running in
+          absurd (cc)
+
+  kind-needed : (b : PlainBoard) (t : Ticket) → IsNeededTicket shown b t → t.kind ≡ Asked
+  unfolding ticket_for
+  kind-needed b t needed = ap (λ x. x.kind) needed.ticket
+
+  pub over-plain : (b : BoardState) → over_by shown (plain b).problem (plain b).replies (plain b).aborted ≡ is_over shown b
+  unfolding plain
+  over-plain b = refl
+
+  -- a seat took a ticket while a drive was under way
+  pub taken-so : (procedure : Rules → Table → Run) (truth : Option (Key → Outcome)) (program : Program) (board b0 b : BoardState) (seat s0 s : SeatState)
+      → IsUnderWay program board b0 seat s0 → (took : TookTicket shown (plain b0) (plain b) s0 s) → BoardInvariant shown procedure truth b
+      → HasTaken shown program board b seat s0 s took.ticket
+  unfolding plain
+  taken-so procedure truth program board b0 b seat s0 s way took inv =
+      let t = took.ticket in
+      let between = took.between in
+      let free : between.live ≡ [] = none-live between.live (took.keeps.live ∙ ap tickets_of way.free) in
+      let needed = needed-alone between t free took.given in
+      let open_there = open-parts shown between (verdict.Need needed.place needed.cutoff) needed.stands in
+      let after : plain b ≡ with_ticket between t = took.after in
+      let live : b.live ≡ alone t = ap (λ c. c.live) after ∙ ap (λ ls. ls ++ alone t) free in
+      let first : board.problem ≡ b.problem = sym (ap (λ c. c.problem) after ∙ took.keeps.added.problem ∙ way.made.problem) in
+      let each : All (IsTicket b.problem b.next) (t ∷ []) = subst (λ ls. All (IsTicket b.problem b.next) (tickets_of ls)) live inv.numbering.numbers.each in
+      let ticket : IsTicket b.problem b.next t = All-head (IsTicket b.problem b.next) t [] each in
+      let asked : IsAskedTicket b.problem t = record { asked = kind-needed between t needed; key = ticket.key; runnable = ticket.runnable } in
+      let asked_first : IsAskedTicket board.problem t = subst (λ p. IsAskedTicket p t) (sym first) asked in
+      let before = made-still program (plain board) seat.told s0.told seat.tickets s0.tickets [] (plain b0) between took.keeps.added way.made in
+      let made = made-ticket program (plain board) seat.told s0.told seat.tickets s0.tickets between t asked_first before in
+      let P : PlainBoard → Type 0 = λ c. HasMade program (t ∷ []) (plain board) c seat.told s0.told seat.tickets (s0.tickets ++ t ∷ []) in
+      let Q : SeatState → Type 0 = λ x. HasMade program (t ∷ []) (plain board) (plain b) seat.told x.told seat.tickets x.tickets in
+      record {
+        made = subst Q (sym took.list) (subst P (sym after) made);
+        live = live;
+        going = ap (λ c. c.stopped) after ∙ open_there.going;
+        more = ap (λ c. over_by shown c.problem c.replies c.aborted) after ∙ needs-more shown between needed.place needed.cutoff needed.stands;
+        asked = kind-needed between t needed;
+        last = ap (λ x. last_of x.tickets) took.list ∙ last-more s0.tickets t;
+        sound = ap (λ x. x.failed) took.list;
+      }

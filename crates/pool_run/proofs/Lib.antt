@@ -1,0 +1,7 @@
+pub mod StartedRuns
+pub mod TurnSteps
+pub mod MadeRuns
+pub mod DriveTurns
+pub mod DriveEnds
+pub mod DrivenBoards
+pub mod WorkedSeats

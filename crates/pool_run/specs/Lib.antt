@@ -1,0 +1,6 @@
+pub mod Seats
+pub mod Starts
+pub mod Turns
+pub mod RunEnds
+pub mod Works
+pub mod Drives

@@ -1,0 +1,115 @@
+-- What a seat does with the board between two runs.
+use Rattle.std.specs.Prelude.{◌≡◌, ◌++◌, Bool, true, false, not, List, [], ◌∷◌, filter}
+use Rattle.ils_face.specs.declared.asks.Reply.{Reply}
+use Rattle.ils_face.specs.Rules.{Rules}
+use Rattle.ils_face.specs.Views.{View}
+use Rattle.capping.specs.declared.verdicts.Verdict.TheVariants as verdict
+use Rattle.board_steps.specs.Boards.{PlainBoard}
+use Rattle.board_steps.specs.declared.answers.Phase.{Phase}
+use Rattle.board_steps.specs.declared.answers.Phase.TheVariants as phase
+use Rattle.board_steps.specs.declared.answers.Taken.TheVariants as taken
+use Rattle.board_steps.specs.declared.events.Event.{Event}
+use Rattle.board_steps.specs.declared.events.Event.TheVariants.{Advance, Take, Record, Lost, Mark, Killed, Stop, Resume}
+use Rattle.board_steps.specs.declared.tickets.Ticket.{Ticket}
+use Rattle.board_steps.specs.Numbering.{tickets_of}
+use Rattle.board_steps.specs.Phases.{phase_of}
+use Rattle.board_steps.specs.Steps.{taken_on, with_ticket}
+use Rattle.pool_run.specs.Seats.{SeatState}
+use Rattle.pool_run.specs.declared.turns.Turn.{Turn}
+use Rattle.pool_run.specs.declared.turns.Turn.TheVariants as turn
+
+-- the event took a ticket
+abbrev pub is_take : Event → Bool
+is_take Advance = false
+is_take (Take number kind cell cutoff asked_at) = true
+is_take (Record number answer) = false
+is_take (Lost number) = false
+is_take (Mark number) = false
+is_take (Killed number) = false
+is_take Stop = false
+is_take Resume = false
+
+-- the event recorded an answer
+abbrev pub is_record : Event → Bool
+is_record Advance = false
+is_record (Take number kind cell cutoff asked_at) = false
+is_record (Record number answer) = true
+is_record (Lost number) = false
+is_record (Mark number) = false
+is_record (Killed number) = false
+is_record Stop = false
+is_record Resume = false
+
+-- the events that came neither took a ticket nor recorded an answer, and the problem is the same
+pub record AddsNoRun (before after : PlainBoard) : Type 0 where
+  pub events : List Event
+  pub journal : after.journal ≡ before.journal ++ events
+  pub takes : filter is_take events ≡ []
+  pub records : filter is_record events ≡ []
+  pub problem : after.problem ≡ before.problem
+
+-- besides, the same tickets are live
+pub record KeepsTickets (before after : PlainBoard) : Type 0 where
+  pub added : AddsNoRun before after
+  pub live : tickets_of after.live ≡ tickets_of before.live
+
+-- a run of the present ask is needed
+abbrev pub needs_run : Phase → Bool
+needs_run phase.Stopped = false
+needs_run phase.Aborted = false
+needs_run (phase.Open (verdict.Reply r)) = false
+needs_run (phase.Open (verdict.Need place cutoff)) = true
+needs_run (phase.Open (verdict.Aborted place)) = false
+needs_run (phase.Open verdict.Ended) = false
+
+-- no run is needed any more
+abbrev pub is_done : Phase → Bool
+is_done phase.Stopped = true
+is_done phase.Aborted = true
+is_done (phase.Open (verdict.Reply r)) = false
+is_done (phase.Open (verdict.Need place cutoff)) = false
+is_done (phase.Open (verdict.Aborted place)) = false
+is_done (phase.Open verdict.Ended) = true
+
+module _ (shown : Rules → List Reply → View) where
+  -- a board advanced as far as it goes: a run is needed then, or none any more
+  pub record AdvancedTo (needed : Bool) (board board' : PlainBoard) : Type 0 where
+    pub keeps : KeepsTickets board board'
+    pub going : board'.stopped ≡ board.stopped
+    pub needs : needs_run (phase_of shown board') ≡ needed
+    pub done : is_done (phase_of shown board') ≡ not needed
+
+  -- a seat took a ticket, which the board gave after steps that keep the tickets
+  pub record TookTicket (board board' : PlainBoard) (seat seat' : SeatState) : Type 0 where
+    pub ticket : Ticket
+    pub between : PlainBoard
+    pub keeps : KeepsTickets board between
+    pub given : taken_on shown between ≡ taken.Ticket ticket
+    pub after : board' ≡ with_ticket between ticket
+    pub list : seat' ≡ record seat { tickets = seat.tickets ++ ticket ∷ [] }
+
+  -- the needed run is being made, and there is none to make ahead
+  pub record StayedIdle (board board' : PlainBoard) (seat seat' : SeatState) : Type 0 where
+    pub keeps : KeepsTickets board board'
+    pub busy : tickets_of board.live ≡ [] → ⊥
+    pub same : seat' ≡ seat
+
+  -- no run is needed any more
+  pub record CameToEnd (board board' : PlainBoard) (seat seat' : SeatState) : Type 0 where
+    pub keeps : KeepsTickets board board'
+    pub going : board'.stopped ≡ board.stopped
+    pub done : is_done (phase_of shown board') ≡ true
+    pub same : seat' ≡ seat
+
+  -- there was no memory, and the board was stopped
+  pub record RanShort (board board' : PlainBoard) (seat seat' : SeatState) : Type 0 where
+    pub keeps : KeepsTickets board board'
+    pub stopped : board'.stopped ≡ true
+    pub noted : seat' ≡ record seat { short = true }
+
+  -- what a turn made of a board and of a seat
+  abbrev pub HasTurned : Turn → PlainBoard → PlainBoard → SeatState → SeatState → Type 0
+  HasTurned turn.Run board board' seat seat' = TookTicket board board' seat seat'
+  HasTurned turn.Idle board board' seat seat' = StayedIdle board board' seat seat'
+  HasTurned turn.Over board board' seat seat' = CameToEnd board board' seat seat'
+  HasTurned turn.Short board board' seat seat' = RanShort board board' seat seat'
