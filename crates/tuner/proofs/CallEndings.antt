@@ -3,25 +3,26 @@ use Rattle.std.proofs.Common.{ℕ, zero, suc, ◌≡◌, ◌<◌, List, [], ◌�
 use Rattle.std.specs.Prelude.{IfSome, slice_get}
 use Rattle.objective.specs.declared.Outcome.{Outcome}
 use Rattle.wrapper_lines.specs.declared.runs.Key.{Key}
-use Rattle.outside.specs.ToldStates.{SinkTold, SpawnerTold}
+use Rattle.outside.specs.ToldStates.{SinkTold}
 use Rattle.plain_text.specs.Faults.{IsFound}
 use Rattle.scenario_files.specs.Faults.{place_of}
 use Rattle.scenario_files.specs.Words.{words_read}
 use Rattle.scenario_files.specs.declared.call.Words.{Words}
 use Rattle.scenario_files.specs.declared.faults.WordFault.{WordFault}
 use Rattle.scenario_files.specs.declared.faults.WordFault.TheVariants as word_fault
-use Rattle.tuner.specs.Calls.{Call, StatesProblem, IsSeated}
+use Rattle.pool_run.specs.Seats.{SeatState}
+use Rattle.tuner.specs.Calls.{Call, StatesTask, IsSeated}
 use Rattle.tuner.specs.Causes.{IsBadFile, IsUnread}
 use Rattle.tuner.specs.Lines.{seats_line}
-use Rattle.tuner.specs.PrintedTexts.{Said, Reported}
-use Rattle.tuner.specs.Problem.{Problem}
-use Rattle.tuner.specs.Promises.{Conducted, IsAbout, RunsOn}
-use Rattle.tuner.specs.Readings.{Reading, Reads, Bad, words_reading, file_by, problem_by, ◌>>=◌}
+use Rattle.tuner.specs.PrintedTexts.{Reported}
+use Rattle.tuner.specs.Promises.{Conducted, IsAbout, HasSeat, Runs}
+use Rattle.tuner.specs.Readings.{Reading, Reads, Bad, words_reading, file_by, task_by, ◌>>=◌}
 use Rattle.tuner.specs.Refusals.{IsCause, IsNext, ReportsMisuse, ReportsRefusal}
 use Rattle.tuner.specs.declared.reading.refusal.Refusal.{Refusal}
 use Rattle.tuner.specs.declared.reading.refusal.Refusal.TheVariants as refusal
 use Rattle.tuner.specs.declared.status.Status.{Status}
 use Rattle.tuner.specs.declared.status.Status.TheVariants as status
+use Rattle.tuner.specs.declared.task.Task.{Task}
 use Rattle.tuner.proofs.RunEndings.{reported, without_memory}
 
 -- what reads by the words reads by the call
@@ -30,12 +31,12 @@ by_call : {A : Type 0} (words : List (List ℕ)) (given : Words) (told : Option 
 by_call words given None read r e h = tt
 by_call words given (Some c) read r e h = ap (λ w. words_reading w >>= read c) e ∙ h
 
--- words and files that state a problem
-pub stated_by : (call : Call) (given : Words) (problem : Problem) → words_read call.words ≡ Ok given
-    → IfSome call.files.contents (λ c. problem_by c given ≡ Reads problem) → StatesProblem call.words call.files problem
-stated_by call given problem e h = record {
+-- words and files that state a task
+pub stated_by : (call : Call) (given : Words) (task : Task) → words_read call.words ≡ Ok given
+    → IfSome call.files.contents (λ c. task_by c given ≡ Reads task) → StatesTask call.words call.files task
+stated_by call given task e h = record {
   called = record { given = given; reads = e };
-  reads = by_call call.words given call.files.contents problem_by (Reads problem) e h;
+  reads = by_call call.words given call.files.contents task_by (Reads task) e h;
 }
 
 -- words that are no call
@@ -44,12 +45,12 @@ pub ending_misused : (call : Call) (out out' : SinkTold) (result : Status) (e : 
 ending_misused call out out' result (word_fault.At place) cause said = reported call out out' result (status.Usage place) _ cause tt refl said
 ending_misused call out out' result word_fault.Memory cause said = without_memory call out out' result said
 
--- files that make no problem
+-- files that make no task
 pub ending_refused : (call : Call) (out out' : SinkTold) (result : Status) (e : Refusal) (given : Words) → words_read call.words ≡ Ok given
-    → IsCause e call.files.contents (λ c. problem_by c given) (IsNext given call.files.contents) call.files.faults call.files'.faults
+    → IsCause e call.files.contents (λ c. task_by c given) (IsNext given call.files.contents) call.files.faults call.files'.faults
     → ReportsRefusal e out out' result → Conducted call out out' result
 ending_refused call out out' result (refusal.BadFile kind name line what) given e cause said =
-    let first = by_call call.words given call.files.contents problem_by (Bad kind name line what) e cause in
+    let first = by_call call.words given call.files.contents task_by (Bad kind name line what) e cause in
     let bad : IsBadFile call kind line what = record { name = name; called = record { given = given; reads = e }; first = first } in
     reported call out out' result (status.BadFile kind line what) _ bad tt (record { name = name; first = first; same = refl }) said
 ending_refused call out out' result (refusal.ReadFault kind name) given e cause said =
@@ -58,29 +59,31 @@ ending_refused call out out' result (refusal.ReadFault kind name) given e cause 
     reported call out out' result (status.ReadFault kind) _ unread tt (record { name = name; next = next; same = refl }) said
 ending_refused call out out' result refusal.Memory given e cause said = without_memory call out out' result said
 
--- a problem with too few seats
-pub ending_unseated : (call : Call) (out out' : SinkTold) (result : Status) (problem : Problem) (asked seats : ℕ) → StatesProblem call.words call.files problem
-    → asked ≡ problem.rules.workers → length call.seats ≡ seats → seats < asked
+-- a task with too few seats
+pub ending_unseated : (call : Call) (out out' : SinkTold) (result : Status) (task : Task) (asked seats : ℕ) → StatesTask call.words call.files task
+    → asked ≡ task.problem.rules.workers → length call.seats ≡ seats → seats < asked
     → Reported out out' result (status.TooFewSeats asked seats) (seats_line asked seats) → Conducted call out out' result
-ending_unseated call out out' result problem asked seats stated workers all fewer said =
+ending_unseated call out out' result task asked seats stated workers all fewer said =
     reported call out out' result (status.TooFewSeats asked seats) _
-    (record { problem = problem; stated = stated; workers = workers; all = sym all; fewer = fewer }) tt refl said
+    (record { task = task; stated = stated; workers = workers; all = sym all; fewer = fewer }) tt refl said
 
-first_of : (seats : List SpawnerTold) (d : SpawnerTold) → 0 < length seats → slice_get seats 0 ≡ Some (get_or seats 0 d)
+first_of : (seats : List SeatState) (d : SeatState) → 0 < length seats → slice_get seats 0 ≡ Some (get_or seats 0 d)
 first_of [] d some = absurd (omega arith)
 first_of (s ∷ later) d some = refl
 
-new_first : (seats : List SpawnerTold) (after : SpawnerTold) → 0 < length seats → slice_get (set seats 0 after) 0 ≡ Some after
+new_first : (seats : List SeatState) (after : SeatState) → 0 < length seats → slice_get (set seats 0 after) 0 ≡ Some after
 new_first [] after some = absurd (omega arith)
 new_first (s ∷ later) after some = refl
 
--- the first of some seats runs the problem
-pub runs_first : (call : Call) (problem : Problem) (truth : Option (Key → Outcome)) (seats : List SpawnerTold) (d before after : SpawnerTold)
-    → IsAbout call problem truth seats (set seats 0 after) → IsSeated (length seats) problem → 0 < length seats
-    → before ≡ get_or seats 0 d → RunsOn call problem truth before after
-runs_first call problem truth seats d before after h seated some same = record {
-  run = record { stated = h.stated; seated = rw h.was seated };
-  tells = h.tells;
+-- a call of this task that has enough seats runs it
+pub runs_about : (call : Call) (task : Task) (truth : Option (Key → Outcome)) (seats seats' : List SeatState)
+    → IsAbout call task truth seats seats' → IsSeated (length seats) task → Runs call task truth
+runs_about call task truth seats seats' h seated = record { run = record { stated = h.stated; seated = rw h.was seated }; tells = h.tells }
+
+-- the first of some seats, before and after
+pub has_first : (call : Call) (task : Task) (truth : Option (Key → Outcome)) (seats : List SeatState) (d before after : SeatState)
+    → IsAbout call task truth seats (set seats 0 after) → 0 < length seats → before ≡ get_or seats 0 d → HasSeat call 0 before after
+has_first call task truth seats d before after h some same = record {
   was = ap (λ s. slice_get s 0) h.was ∙ first_of seats d some ∙ ap Some (sym same);
   is = ap (λ s. slice_get s 0) h.is ∙ new_first seats after some;
 }

@@ -1,11 +1,9 @@
-mod FirstEntries
-mod RunsSoFar
-mod AskedCells
-mod NeededCells
-mod ShownAnswers
 mod SaidTexts
-mod PresentAsks
 mod RunEndings
+mod BoardEndings
+mod DrivenSeats
 mod PromiseLemmas
 mod CallEndings
 mod ReadingCauses
+mod SeatsTogether
+mod TakenTickets

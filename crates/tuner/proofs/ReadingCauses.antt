@@ -1,10 +1,10 @@
--- Why the files that a scenario names make no problem, after its own file was read.
+-- Why the files that a scenario names make no task, after its own file was read.
 use Rattle.std.proofs.Common.{ℕ, ◌≡◌, ◌≤◌, List, Option, Some, None, sym, ap, subst, ◌∙◌, arith}
 use Rattle.std.specs.Prelude.{IfSome}
 use Rattle.outside.specs.Counts.{Rose}
 use Rattle.scenario_files.specs.declared.call.Words.{Words}
 use Rattle.scenario_files.specs.declared.filling.Scenario.{Scenario}
-use Rattle.tuner.specs.Readings.{Reading, Reads, Bad, scenario_reading, space_reading, problem_in, problem_by, ◌>>=◌}
+use Rattle.tuner.specs.Readings.{Reading, Reads, Bad, scenario_reading, space_reading, task_in, task_by, ◌>>=◌}
 use Rattle.tuner.specs.Refusals.{IsCause, IsNext, IsNextIn}
 use Rattle.tuner.specs.declared.reading.refusal.Refusal.{Refusal}
 use Rattle.tuner.specs.declared.reading.refusal.Refusal.TheVariants.{BadFile, ReadFault, Memory}
@@ -31,13 +31,13 @@ next_on words scenario (Some c) kind.Params name e h = ap (λ s. s >>= λ t. Rea
 next_on words scenario told kind.Instances name e h =
     read_on words scenario told (λ c s. space_reading c s.paramfile >>= λ space. Reads s.instance_file) (Reads name) e h
 
--- a refusal of the files that the scenario names is one of the problem
+-- a refusal of the files that the scenario names is one of the task
 pub refused_on : (words : Words) (scenario : Scenario) (told told' : Option (List ℕ → Option (List ℕ))) (before middle after : ℕ) (e : Refusal)
     → told' ≡ told → before ≤ middle → StatesScenario words told scenario
-    → IsCause e told' (λ c. problem_in c scenario) (IsNextIn scenario told') middle after → IsCause e told (λ c. problem_by c words) (IsNext words told) before after
+    → IsCause e told' (λ c. task_in c scenario) (IsNextIn scenario told') middle after → IsCause e told (λ c. task_by c words) (IsNext words told) before after
 refused_on words scenario told told' before middle after (BadFile k name line what) same low stated h =
-    let P : Option (List ℕ → Option (List ℕ)) → Type 0 = λ t. IfSome t (λ c. problem_in c scenario ≡ Bad k name line what) in
-    read_on words scenario told problem_in (Bad k name line what) stated (subst P same h)
+    let P : Option (List ℕ → Option (List ℕ)) → Type 0 = λ t. IfSome t (λ c. task_in c scenario ≡ Bad k name line what) in
+    read_on words scenario told task_in (Bad k name line what) stated (subst P same h)
 refused_on words scenario told told' before middle after (ReadFault k name) same low stated h =
     let P : Option (List ℕ → Option (List ℕ)) → Type 0 = λ t. IsNextIn scenario t k name in
     let rose : Rose middle after = h.0 in

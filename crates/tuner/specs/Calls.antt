@@ -2,22 +2,24 @@
 use Rattle.std.specs.Prelude.{ℕ, ◌≡◌, ◌≤◌, List, Option, Ok, Err, IfSome}
 use Rattle.objective.specs.declared.Outcome.{Outcome}
 use Rattle.wrapper_lines.specs.declared.runs.Key.{Key}
-use Rattle.outside.specs.ToldStates.{FilesTold, SpawnerTold}
+use Rattle.outside.specs.ToldStates.{FilesTold}
 use Rattle.scenario_files.specs.Words.{words_read}
 use Rattle.scenario_files.specs.declared.call.Words.{Words}
-use Rattle.tuner.specs.Problem.{Problem}
+use Rattle.pool_run.specs.Seats.{SeatState}
 use Rattle.tuner.specs.Readings.{Reads, problem_of}
+use Rattle.tuner.specs.declared.task.Task.{Task}
 
--- what a call is given, with what its files and seats tell before and after it
+-- what a call is given, with what its files tell and what its seats hold before and after it
 pub record Call : Type 0 where
   pub words : List (List ℕ)
   pub files : FilesTold
   pub files' : FilesTold
   pub truth : Option (Key → Outcome)  -- of the seats, where it is told
-  pub seats : List SpawnerTold
-  pub seats' : List SpawnerTold
+  pub seats : List SeatState
+  pub seats' : List SeatState
 
-abbrev pub call_of : List (List ℕ) → FilesTold → FilesTold → Option (Key → Outcome) → List SpawnerTold → List SpawnerTold → Call
+abbrev pub call_of : List (List ℕ) → FilesTold → FilesTold → Option (Key → Outcome) → List SeatState → List SeatState
+    → Call
 call_of words files files' truth seats seats' =
     record { words = words; files = files; files' = files'; truth = truth; seats = seats; seats' = seats' }
 
@@ -30,11 +32,11 @@ pub record IsCalled (words : List (List ℕ)) : Type 0 where
   pub given : Words
   pub reads : words_read words ≡ Ok given
 
--- the words and the files, where these are told, state this problem
-pub record StatesProblem (words : List (List ℕ)) (files : FilesTold) (problem : Problem) : Type 0 where
+-- the words and the files, where these are told, state this task
+pub record StatesTask (words : List (List ℕ)) (files : FilesTold) (task : Task) : Type 0 where
   pub called : IsCalled words
-  pub reads : IfSome files.contents (λ contents. problem_of words contents ≡ Reads problem)
+  pub reads : IfSome files.contents (λ contents. problem_of words contents ≡ Reads task)
 
--- so many seats are as many as the problem asks for
-abbrev pub IsSeated : ℕ → Problem → Type 0
-IsSeated seats problem = problem.rules.workers ≤ seats
+-- so many seats are as many as the task asks for
+abbrev pub IsSeated : ℕ → Task → Type 0
+IsSeated seats task = task.problem.rules.workers ≤ seats

@@ -3,32 +3,35 @@ use Rattle.std.specs.Prelude.{ℕ, ◌≡◌, ◌<◌, List, length, slice_get, 
 use Rattle.objective.specs.declared.Outcome.{Outcome}
 use Rattle.wrapper_lines.specs.declared.runs.Key.{Key}
 use Rattle.outside.specs.Counts.{Rose}
-use Rattle.outside.specs.ToldStates.{FilesTold, SpawnerTold}
+use Rattle.outside.specs.ToldStates.{FilesTold}
 use Rattle.uncapped.specs.Procedure.{Finished, Aborted}
 use Rattle.uncapped.specs.Totals.{NeverAborts}
-use Rattle.tuner.specs.AskEnds.{IsFailure, IsAbort}
-use Rattle.tuner.specs.Calls.{Call, call_of, IsMisused, IsCalled, StatesProblem, IsSeated}
-use Rattle.tuner.specs.Problem.{Problem}
-use Rattle.tuner.specs.ProblemRuns.{table_of}
-use Rattle.tuner.specs.Readings.{Reads, Bad, problem_of, file_name}
-use Rattle.tuner.specs.SearchEnds.{true_run, ask_over}
 use Rattle.run_cache.specs.declared.cell.Cell.{Cell}
+use Rattle.board_steps.specs.ProblemRuns.{table_of}
+use Rattle.board_steps.specs.declared.tickets.Ticket.{Ticket}
+use Rattle.pool_run.specs.Seats.{SeatState}
+use Rattle.tuner.specs.AbortedAsks.{IsAbort}
+use Rattle.tuner.specs.Calls.{Call, call_of, IsMisused, IsCalled, StatesTask, IsSeated}
+use Rattle.tuner.specs.KeptFaults.{HasFault}
+use Rattle.tuner.specs.Readings.{Reads, Bad, problem_of, file_name}
+use Rattle.tuner.specs.Tasks.{true_run, ask_over}
 use Rattle.tuner.specs.declared.status.FileKind.{FileKind}
 use Rattle.tuner.specs.declared.status.What.{What}
 use Rattle.tuner.specs.declared.status.Status.{Status}
 use Rattle.tuner.specs.declared.status.Status.TheVariants as status
+use Rattle.tuner.specs.declared.task.Task.{Task}
 
--- words and files state this problem, and there are as many seats as it asks for
-pub record IsRun (call : Call) (problem : Problem) : Type 0 where
-  pub stated : StatesProblem call.words call.files problem
-  pub seated : IsSeated (length call.seats) problem
+-- words and files state this task, and there are as many seats as it asks for
+pub record IsRun (call : Call) (task : Task) : Type 0 where
+  pub stated : StatesTask call.words call.files task
+  pub seated : IsSeated (length call.seats) task
 
 -- the cause of Ok: a search was run, and where a truth is told that never aborts, the uncapped procedure finishes
 pub record IsFinished (call : Call) : Type 0 where
-  pub problem : Problem
-  pub run : IsRun call problem
-  pub finished : IsSome call.truth → NeverAborts problem.rules.limits (table_of call.truth problem)
-      → (true_run call.truth problem).end ≡ Finished
+  pub task : Task
+  pub run : IsRun call task
+  pub finished : IsSome call.truth → NeverAborts task.problem.rules.limits (table_of call.truth task.problem)
+      → (true_run call.truth task).end ≡ Finished
 
 -- the cause of BadFile: this fault is the first in the files, and its file was read
 pub record IsBadFile (call : Call) (kind : FileKind) (line : ℕ) (what : What) : Type 0 where
@@ -43,35 +46,35 @@ pub record IsUnread (call : Call) (kind : FileKind) : Type 0 where
   pub next : IfSome call.files.contents (λ contents. file_name call.words contents kind ≡ Reads name)
   pub rose : Rose call.files.faults call.files'.faults
 
--- the cause of TooFewSeats: words and files state a problem that asks for more seats than there are
+-- the cause of TooFewSeats: words and files state a task that asks for more seats than there are
 pub record IsTooFew (call : Call) (asked given : ℕ) : Type 0 where
-  pub problem : Problem
-  pub stated : StatesProblem call.words call.files problem
-  pub workers : asked ≡ problem.rules.workers
+  pub task : Task
+  pub stated : StatesTask call.words call.files task
+  pub workers : asked ≡ task.problem.rules.workers
   pub all : given ≡ length call.seats
   pub fewer : given < asked
 
 -- the cause of Aborted: where a truth is told, the uncapped procedure is aborted, and the run of this cell is the first one of
 -- an ask that aborts
 pub record IsAborted (call : Call) (cell : Cell) : Type 0 where
-  pub problem : Problem
-  pub run : IsRun call problem
+  pub task : Task
+  pub run : IsRun call task
   pub number : ℕ  -- of the ask
-  pub abort : IsAbort problem call.truth (ask_over call.truth problem number) cell
-  pub ended : IsSome call.truth → (true_run call.truth problem).end ≡ Aborted
+  pub abort : IsAbort task.problem call.truth (ask_over call.truth task number) cell
+  pub ended : IsSome call.truth → (true_run call.truth task).end ≡ Aborted
 
--- the cause of ChildFault: the count of this seat rose, and its failed run is one of the problem's; where a truth is told, it
--- is due at an ask
+-- the cause of ChildFault: one of the seats that the task asks for keeps a ticket that was asked for, whose run is the one that
+-- failed, and its count rose; where a truth is told, the run is due at the ask whose number is the ticket's place
 pub record IsChildFault (call : Call) (seat : ℕ) : Type 0 where
-  pub problem : Problem
-  pub cell : Cell
-  pub before : SpawnerTold
-  pub after : SpawnerTold
-  pub run : IsRun call problem
+  pub task : Task
+  pub run : IsRun call task
+  pub one : seat < task.problem.rules.workers
+  pub ticket : Ticket
+  pub before : SeatState
+  pub after : SeatState
   pub was : slice_get call.seats seat ≡ Some before
   pub is : slice_get call.seats' seat ≡ Some after
-  pub number : ℕ  -- of the ask
-  pub failure : IsFailure problem call.truth (ask_over call.truth problem number) before after cell
+  pub fault : HasFault task call.truth before after ticket
 
 -- the cause of each answer, but of want of memory; that of WriteFault is the output's
 abbrev pub CauseOf : Call → Status → Type 0
@@ -81,10 +84,11 @@ CauseOf call (status.BadFile kind line what) = IsBadFile call kind line what
 CauseOf call (status.ReadFault kind) = IsUnread call kind
 CauseOf call status.WriteFault = Unit {0}
 CauseOf call (status.Aborted cell) = IsAborted call cell
-CauseOf call (status.ChildFault seat) = (seat ≡ 0) × IsChildFault call seat
+CauseOf call (status.ChildFault seat) = IsChildFault call seat
 CauseOf call status.NoMemory = Unit {0}
 CauseOf call (status.TooFewSeats asked given) = IsTooFew call asked given
 
--- the answer has its cause in the words, and in what files and seats tell before and after the call
-abbrev pub HasCause : List (List ℕ) → FilesTold → FilesTold → Option (Key → Outcome) → List SpawnerTold → List SpawnerTold → Status → Type 0
+-- the answer has its cause in the words, and in what files tell and what seats hold before and after the call
+abbrev pub HasCause : List (List ℕ) → FilesTold → FilesTold → Option (Key → Outcome) → List SeatState → List SeatState → Status
+    → Type 0
 HasCause words files files' truth seats seats' = CauseOf (call_of words files files' truth seats seats')

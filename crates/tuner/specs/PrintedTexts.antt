@@ -1,30 +1,35 @@
 -- What the top call prints, by how it is to end, and what comes of it.
-use Rattle.std.specs.Prelude.{ℕ, ◌≡◌, List, slice_get, Option, Some, IfSome}
+use Rattle.std.specs.Prelude.{ℕ, ◌≡◌, List, Option, IfSome, IsSome}
 use Rattle.objective.specs.declared.Outcome.{Outcome}
 use Rattle.wrapper_lines.specs.declared.runs.Key.{Key}
-use Rattle.outside.specs.ToldStates.{FilesTold, SinkTold, SpawnerTold}
+use Rattle.outside.specs.ToldStates.{FilesTold, SinkTold}
 use Rattle.outside.specs.WholePieces.{Took, TookPartOf, WroteBadly}
 use Rattle.uncapped.specs.Procedure.{Incumbent}
-use Rattle.tuner.specs.Calls.{StatesProblem}
+use Rattle.ils_face.specs.Replies.{entries_before}
+use Rattle.ils_face.specs.Steady.{Grows}
+use Rattle.run_cache.specs.declared.cell.Cell.{Cell}
+use Rattle.board_steps.specs.declared.tickets.Ticket.{Ticket}
+use Rattle.pool_run.specs.Seats.{SeatState}
+use Rattle.tuner.specs.Calls.{StatesTask}
+use Rattle.tuner.specs.KeptFaults.{IsKeptBy}
 use Rattle.tuner.specs.Lines.{lines_with, all_lines, aborted_line, no_memory_line, usage_line, bad_file_line, read_fault_line, seats_line, child_fault_line}
-use Rattle.tuner.specs.Problem.{Problem}
-use Rattle.tuner.specs.ProblemRuns.{IsCell, run_at}
 use Rattle.tuner.specs.Readings.{Reads, Bad, problem_of, file_name}
 use Rattle.tuner.specs.SearchEnds.{IsTrajectoryOf, IsStoppedSearch, AreFirst}
-use Rattle.run_cache.specs.declared.cell.Cell.{Cell}
+use Rattle.tuner.specs.Tasks.{quiet_run}
 use Rattle.tuner.specs.declared.status.FileKind.{FileKind}
 use Rattle.tuner.specs.declared.status.What.{What}
 use Rattle.tuner.specs.declared.status.Status.{Status}
 use Rattle.tuner.specs.declared.status.Status.TheVariants as status
+use Rattle.tuner.specs.declared.task.Task.{Task}
 
 -- the entries and the last line of a search that made all comparisons
 pub record IsSearchText (words : List (List ℕ)) (files : FilesTold) (truth : Option (Key → Outcome)) (text : List ℕ) : Type 0 where
-  pub problem : Problem
-  pub stated : StatesProblem words files problem
+  pub task : Task
+  pub stated : StatesTask words files task
   pub entries : List Incumbent
   pub last : Incumbent
-  pub trajectory : IsTrajectoryOf problem truth entries last
-  pub lines : text ≡ all_lines problem.rules.space entries last
+  pub trajectory : IsTrajectoryOf task truth entries last
+  pub lines : text ≡ all_lines task.problem.rules.space entries last
 
 -- the line of the file's first fault
 pub record IsBadFileText (words : List (List ℕ)) (files : FilesTold) (kind : FileKind) (line : ℕ) (what : What) (text : List ℕ) : Type 0 where
@@ -40,34 +45,33 @@ pub record IsReadFaultText (words : List (List ℕ)) (files : FilesTold) (kind :
 
 -- the entries of a search that a child aborts, and then the place and the settings of its run
 pub record IsAbortedText (words : List (List ℕ)) (files : FilesTold) (truth : Option (Key → Outcome)) (cell : Cell) (text : List ℕ) : Type 0 where
-  pub problem : Problem
-  pub stated : StatesProblem words files problem
+  pub task : Task
+  pub stated : StatesTask words files task
   pub entries : List Incumbent
-  pub stopped : IsStoppedSearch problem truth entries
-  pub lines : text ≡ lines_with problem.rules.space entries (aborted_line problem.rules.space cell.place cell.config)
+  pub stopped : IsStoppedSearch task truth entries
+  pub lines : text ≡ lines_with task.problem.rules.space entries (aborted_line task.problem.rules.space cell.place cell.config)
 
--- the entries of a search so far, and then the place and the settings of a seat's failed run
-pub record IsChildFaultText (words : List (List ℕ)) (files : FilesTold) (truth : Option (Key → Outcome)) (seats : List SpawnerTold) (seat : ℕ) (text : List ℕ) : Type 0 where
-  pub problem : Problem
-  pub stated : StatesProblem words files problem
+-- the entries of a search so far, and then the place and the settings of the run of a seat's kept ticket; where a truth is told,
+-- they are at least those that the uncapped procedure, each abort as unsolved, adds before the ask with the ticket's place
+pub record IsChildFaultText (words : List (List ℕ)) (files : FilesTold) (truth : Option (Key → Outcome)) (seats : List SeatState)
+    (seat : ℕ) (text : List ℕ) : Type 0 where
+  pub task : Task
+  pub stated : StatesTask words files task
   pub entries : List Incumbent
-  pub first : AreFirst problem truth entries
-  pub cell : Cell
-  pub in_problem : IsCell problem cell
-  pub after : SpawnerTold
-  pub is : slice_get seats seat ≡ Some after
-  pub cutoff : ℕ
-  pub failed : after.failed_run ≡ Some (run_at problem cell.config cell.place cutoff)
-  pub lines : text ≡ lines_with problem.rules.space entries (child_fault_line problem.rules.space cell.place cell.config)
+  pub first : AreFirst task truth entries
+  pub ticket : Ticket
+  pub before : IsSome truth → Grows (entries_before (quiet_run truth task) ticket.place) entries
+  pub kept : IsKeptBy task.problem seats seat ticket
+  pub lines : text ≡ lines_with task.problem.rules.space entries (child_fault_line task.problem.rules.space ticket.cell.place ticket.cell.config)
 
 -- the line that there is no memory, by itself or after the entries of a search so far
 pub data IsNoMemoryText (words : List (List ℕ)) (files : FilesTold) (truth : Option (Key → Outcome)) (text : List ℕ) : Type 0 where
   alone : text ≡ no_memory_line → IsNoMemoryText words files truth text
-  after_entries : (problem : Problem) (entries : List Incumbent) → StatesProblem words files problem → AreFirst problem truth entries
-      → text ≡ lines_with problem.rules.space entries no_memory_line → IsNoMemoryText words files truth text
+  after_entries : (task : Task) (entries : List Incumbent) → StatesTask words files task → AreFirst task truth entries
+      → text ≡ lines_with task.problem.rules.space entries no_memory_line → IsNoMemoryText words files truth text
 
 -- the whole text of a call that is to end so; the seats are those after the call
-abbrev pub IsTextOf : List (List ℕ) → FilesTold → Option (Key → Outcome) → List SpawnerTold → Status → List ℕ → Type 0
+abbrev pub IsTextOf : List (List ℕ) → FilesTold → Option (Key → Outcome) → List SeatState → Status → List ℕ → Type 0
 IsTextOf words files truth seats status.Ok text = IsSearchText words files truth text
 IsTextOf words files truth seats (status.Usage place) text = text ≡ usage_line place
 IsTextOf words files truth seats (status.BadFile kind line what) text = IsBadFileText words files kind line what text
@@ -90,7 +94,7 @@ pub data Reported (out out' : SinkTold) (result end : Status) (text : List ℕ) 
   not_made : Said out out' status.NoMemory result no_memory_line → Reported out out' result end text
 
 -- how the call was to end, what it was to print then, and what came of it
-pub record Ending (words : List (List ℕ)) (files : FilesTold) (truth : Option (Key → Outcome)) (seats : List SpawnerTold) (out out' : SinkTold) (result : Status) : Type 0 where
+pub record Ending (words : List (List ℕ)) (files : FilesTold) (truth : Option (Key → Outcome)) (seats : List SeatState) (out out' : SinkTold) (result : Status) : Type 0 where
   pub end : Status
   pub text : List ℕ
   pub wanted : IsTextOf words files truth seats end text

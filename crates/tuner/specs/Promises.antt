@@ -3,26 +3,29 @@ use Rattle.std.specs.Prelude.{ℕ, ◌≡◌, ◌<◌, ◌⊎◌, Bool, true, fa
 use Rattle.objective.specs.declared.Outcome.{Outcome}
 use Rattle.wrapper_lines.specs.declared.runs.Key.{Key}
 use Rattle.outside.specs.Counts.{Rose}
-use Rattle.outside.specs.ToldStates.{FilesTold, SinkTold, SpawnerTold}
+use Rattle.outside.specs.ToldStates.{FilesTold, SinkTold}
 use Rattle.outside.specs.WholePieces.{Took, TookPartOf}
 use Rattle.uncapped.specs.Procedure.{Incumbent, Finished, Aborted}
 use Rattle.uncapped.specs.Totals.{NeverAborts}
 use Rattle.ils_face.specs.Aborts.{entries_of}
 use Rattle.ils_face.specs.Steady.{Grows}
 use Rattle.run_cache.specs.declared.cell.Cell.{Cell}
+use Rattle.board_steps.specs.ProblemRuns.{table_of}
+use Rattle.board_steps.specs.declared.tickets.Ticket.{Ticket}
+use Rattle.pool_run.specs.Seats.{SeatState, IsFault, fault_of}
 use Rattle.tuner.specs.CallStarts.{StartsDue, StartsOf}
-use Rattle.tuner.specs.Calls.{Call, call_of, IsMisused, StatesProblem, IsSeated}
+use Rattle.tuner.specs.Calls.{Call, call_of, IsMisused, StatesTask, IsSeated}
 use Rattle.tuner.specs.Causes.{CauseOf, IsRun}
 use Rattle.tuner.specs.Lines.{lines_with, all_lines, output_of, aborted_line}
 use Rattle.tuner.specs.PrintedTexts.{IsTextOf, Said}
-use Rattle.tuner.specs.Problem.{Problem}
-use Rattle.tuner.specs.ProblemRuns.{table_of}
 use Rattle.tuner.specs.Readings.{Reads, Bad, problem_of}
-use Rattle.tuner.specs.SearchEnds.{IsSearched, AreFirst, true_run, quiet_run}
+use Rattle.tuner.specs.SearchEnds.{IsSearched, AreFirst}
+use Rattle.tuner.specs.Tasks.{true_run, quiet_run}
 use Rattle.tuner.specs.declared.status.FileKind.{FileKind}
 use Rattle.tuner.specs.declared.status.What.{What}
 use Rattle.tuner.specs.declared.status.Status.{Status}
 use Rattle.tuner.specs.declared.status.Status.TheVariants as status
+use Rattle.tuner.specs.declared.task.Task.{Task}
 
 -- how a call was to end, why, what it had started and was to print then, and what came of it
 pub record Conducted (call : Call) (out out' : SinkTold) (result : Status) : Type 0 where
@@ -33,36 +36,48 @@ pub record Conducted (call : Call) (out out' : SinkTold) (result : Status) : Typ
   pub wanted : IsTextOf call.words call.files call.truth call.seats' end text
   pub said : Said out out' end result text
 
--- a call is of this problem and these seats, which tell this truth
-pub record IsAbout (call : Call) (problem : Problem) (truth : Option (Key → Outcome)) (seats seats' : List SpawnerTold) : Type 0 where
-  pub stated : StatesProblem call.words call.files problem
+-- a call is of this task and these seats, which tell this truth
+pub record IsAbout (call : Call) (task : Task) (truth : Option (Key → Outcome)) (seats seats' : List SeatState) : Type 0 where
+  pub stated : StatesTask call.words call.files task
   pub tells : call.truth ≡ truth
   pub was : call.seats ≡ seats
   pub is : call.seats' ≡ seats'
 
--- a call runs this problem on its first seat, and tells this truth
-pub record RunsOn (call : Call) (problem : Problem) (truth : Option (Key → Outcome)) (before after : SpawnerTold) : Type 0 where
-  pub run : IsRun call problem
+-- a call runs this task, and its seats tell this truth
+pub record Runs (call : Call) (task : Task) (truth : Option (Key → Outcome)) : Type 0 where
+  pub run : IsRun call task
   pub tells : call.truth ≡ truth
-  pub was : slice_get call.seats 0 ≡ Some before
-  pub is : slice_get call.seats' 0 ≡ Some after
+
+-- a call has a seat with this number, which was so before it and is so after it
+pub record HasSeat (call : Call) (number : ℕ) (before after : SeatState) : Type 0 where
+  pub was : slice_get call.seats number ≡ Some before
+  pub is : slice_get call.seats' number ≡ Some after
+
+-- one of the seats that a call's task asks for keeps this ticket, whose run failed
+pub record KeepsFault (call : Call) (task : Task) (number : ℕ) (t : Ticket) : Type 0 where
+  pub one : number < task.problem.rules.workers
+  pub before : SeatState
+  pub after : SeatState
+  pub seat : HasSeat call number before after
+  pub kept : fault_of after ≡ Some t
+  pub fault : IsFault before.told after.told t
 
 -- ---- the headline
 
--- the bytes that the output took are the lines of a search of the stated problem that made all comparisons, and
+-- the bytes that the output took are the lines of a search of the stated task that made all comparisons, and
 -- nothing else; where the seats tell a truth that never aborts, the uncapped procedure over it finishes, and where it
 -- finishes, they are its lines
 pub record IsPrinted (words : List (List ℕ)) (files : FilesTold) (truth : Option (Key → Outcome)) (out out' : SinkTold) : Type 0 where
-  pub problem : Problem
-  pub stated : StatesProblem words files problem
+  pub task : Task
+  pub stated : StatesTask words files task
   pub entries : List Incumbent
   pub last : Incumbent
-  pub searched : IsSearched problem.rules entries last
-  pub printed : Took out out' (all_lines problem.rules.space entries last)
-  pub finished : IsSome truth → NeverAborts problem.rules.limits (table_of truth problem)
-      → (true_run truth problem).end ≡ Finished
-  pub told : IsSome truth → (true_run truth problem).end ≡ Finished
-      → Took out out' (output_of problem.rules.space (true_run truth problem))
+  pub searched : IsSearched task.problem.rules entries last
+  pub printed : Took out out' (all_lines task.problem.rules.space entries last)
+  pub finished : IsSome truth → NeverAborts task.problem.rules.limits (table_of truth task.problem)
+      → (true_run truth task).end ≡ Finished
+  pub told : IsSome truth → (true_run truth task).end ≡ Finished
+      → Took out out' (output_of task.problem.rules.space (true_run truth task))
 
 -- with Ok the trajectory is printed
 abbrev pub Headline : List (List ℕ) → FilesTold → Option (Key → Outcome) → SinkTold → SinkTold → Status → Type 0
@@ -70,8 +85,8 @@ Headline words files truth out out' result = result ≡ status.Ok → IsPrinted 
 
 -- ---- starts
 
--- with Ok the first seat has started due runs of the stated problem, and nothing else
-abbrev pub Starts : List (List ℕ) → FilesTold → FilesTold → Option (Key → Outcome) → List SpawnerTold → List SpawnerTold
+-- with Ok the first seat has started due runs of the stated task, and nothing else
+abbrev pub Starts : List (List ℕ) → FilesTold → FilesTold → Option (Key → Outcome) → List SeatState → List SeatState
     → Status → Type 0
 Starts words files files' truth seats seats' result =
     result ≡ status.Ok → StartsDue (call_of words files files' truth seats seats')
@@ -80,25 +95,25 @@ Starts words files files' truth seats seats' result =
 
 -- with Ok all entries and the last line of the uncapped procedure with each abort as unsolved were printed, where a truth is told
 pub record IsUnabortedOutput (words : List (List ℕ)) (files : FilesTold) (truth : Option (Key → Outcome)) (out out' : SinkTold) : Type 0 where
-  pub problem : Problem
-  pub stated : StatesProblem words files problem
+  pub task : Task
+  pub stated : StatesTask words files task
   pub entries : List Incumbent
   pub last : Incumbent
-  pub printed : Took out out' (all_lines problem.rules.space entries last)
-  pub holds : IsSome truth → Grows (entries_of (true_run truth problem)) entries
-  pub all : IsSome truth → entries ≡ entries_of (quiet_run truth problem)
-  pub end : IsSome truth → last ≡ (quiet_run truth problem).last
+  pub printed : Took out out' (all_lines task.problem.rules.space entries last)
+  pub holds : IsSome truth → Grows (entries_of (true_run truth task)) entries
+  pub all : IsSome truth → entries ≡ entries_of (quiet_run truth task)
+  pub end : IsSome truth → last ≡ (quiet_run truth task).last
 
 -- with Aborted entries and the line of the cell were printed: where a truth is told, the uncapped procedure is aborted,
 -- its entries are the first ones of these, and these are the first ones of it with each abort as unsolved
 pub record IsAbortedOutput (words : List (List ℕ)) (files : FilesTold) (truth : Option (Key → Outcome)) (cell : Cell) (out out' : SinkTold) : Type 0 where
-  pub problem : Problem
-  pub stated : StatesProblem words files problem
+  pub task : Task
+  pub stated : StatesTask words files task
   pub entries : List Incumbent
-  pub printed : Took out out' (lines_with problem.rules.space entries (aborted_line problem.rules.space cell.place cell.config))
-  pub aborts : IsSome truth → (true_run truth problem).end ≡ Aborted
-  pub holds : IsSome truth → Grows (entries_of (true_run truth problem)) entries
-  pub first : AreFirst problem truth entries
+  pub printed : Took out out' (lines_with task.problem.rules.space entries (aborted_line task.problem.rules.space cell.place cell.config))
+  pub aborts : IsSome truth → (true_run truth task).end ≡ Aborted
+  pub holds : IsSome truth → Grows (entries_of (true_run truth task)) entries
+  pub first : AreFirst task truth entries
 
 -- the abort sentence
 pub record AbortSentence (words : List (List ℕ)) (files : FilesTold) (truth : Option (Key → Outcome)) (out out' : SinkTold) (result : Status) : Type 0 where
@@ -114,8 +129,8 @@ begins_with_letter (byte ∷ rest) = nat_le 97 byte
 -- truth is told, the entries are the first ones of the uncapped procedure over it with each abort as unsolved
 pub data PrintsFirst (words : List (List ℕ)) (files : FilesTold) (truth : Option (Key → Outcome)) (out out' : SinkTold) : Type 0 where
   none : (line : List ℕ) → IsTrue (begins_with_letter line) → TookPartOf out out' line → PrintsFirst words files truth out out'
-  some : (problem : Problem) (entries : List Incumbent) (line : List ℕ) → StatesProblem words files problem → AreFirst problem truth entries
-      → IsTrue (begins_with_letter line) → TookPartOf out out' (lines_with problem.rules.space entries line) → PrintsFirst words files truth out out'
+  some : (task : Task) (entries : List Incumbent) (line : List ℕ) → StatesTask words files task → AreFirst task truth entries
+      → IsTrue (begins_with_letter line) → TookPartOf out out' (lines_with task.problem.rules.space entries line) → PrintsFirst words files truth out out'
 
 -- ---- refusals
 
@@ -152,24 +167,25 @@ pub record RefusesFaulty (words : List (List ℕ)) (files : FilesTold) (result :
   pub refuses : (contents : List ℕ → Option (List ℕ)) (kind : FileKind) (name : List ℕ) (line : ℕ) (what : What) → files.contents ≡ Some contents
       → problem_of words contents ≡ Bad kind name line what → (result ≡ status.BadFile kind line what) ⊎ IsTrue (yields result)
 
--- a problem that asks for more seats than these gives TooFewSeats, where nothing else comes in between
+-- a task that asks for more seats than these gives TooFewSeats, where nothing else comes in between
 pub record RefusesUnseated (words : List (List ℕ)) (files : FilesTold) (seats : ℕ) (result : Status) : Type 0 where
-  pub refuses : (contents : List ℕ → Option (List ℕ)) (problem : Problem) → files.contents ≡ Some contents
-      → problem_of words contents ≡ Reads problem → seats < problem.rules.workers
-      → (result ≡ status.TooFewSeats problem.rules.workers seats) ⊎ IsTrue (yields result)
+  pub refuses : (contents : List ℕ → Option (List ℕ)) (task : Task) → files.contents ≡ Some contents
+      → problem_of words contents ≡ Reads task → seats < task.problem.rules.workers
+      → (result ≡ status.TooFewSeats task.problem.rules.workers seats) ⊎ IsTrue (yields result)
 
 -- ---- completeness
 
 -- no seat's count of faults rose
-abbrev pub NoSeatFails : List SpawnerTold → List SpawnerTold → Type 0
-NoSeatFails seats seats' = (k : ℕ) (before after : SpawnerTold) → slice_get seats k ≡ Some before → slice_get seats' k ≡ Some after
-    → ¬ Rose before.faults after.faults
+abbrev pub NoSeatFails : List SeatState → List SeatState → Type 0
+NoSeatFails seats seats' = (k : ℕ) (before after : SeatState) → slice_get seats k ≡ Some before → slice_get seats' k ≡ Some after
+    → ¬ Rose before.told.faults after.told.faults
 
--- where files and seats work, words and files state a problem, there are enough seats and the told truth never aborts,
+-- where files and seats work, words and files state a task, there are enough seats and the told truth never aborts,
 -- the call ends Ok, or for want of memory or a failed write
-pub record IsComplete (words : List (List ℕ)) (files files' : FilesTold) (truth : Option (Key → Outcome)) (seats seats' : List SpawnerTold) (result : Status) : Type 0 where
-  pub complete : (contents : List ℕ → Option (List ℕ)) (problem : Problem)
-      → files.contents ≡ Some contents → problem_of words contents ≡ Reads problem → IsSeated (length seats) problem
-      → IsSome truth → NeverAborts problem.rules.limits (table_of truth problem)
+pub record IsComplete (words : List (List ℕ)) (files files' : FilesTold) (truth : Option (Key → Outcome))
+    (seats seats' : List SeatState) (result : Status) : Type 0 where
+  pub complete : (contents : List ℕ → Option (List ℕ)) (task : Task)
+      → files.contents ≡ Some contents → problem_of words contents ≡ Reads task → IsSeated (length seats) task
+      → IsSome truth → NeverAborts task.problem.rules.limits (table_of truth task.problem)
       → ¬ Rose files.faults files'.faults → NoSeatFails seats seats'
       → (result ≡ status.Ok) ⊎ IsTrue (is_unsaid result)

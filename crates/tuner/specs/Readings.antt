@@ -1,4 +1,4 @@
--- The reading of words and files as a problem.
+-- The reading of words and files as a task.
 use Rattle.std.specs.Prelude.{ℕ, List, Option, Some, None, Result, Ok, Err}
 use Rattle.plain_text.specs.Faults.{LineFault}
 use Rattle.param_space.specs.Space.{Lists}
@@ -9,12 +9,12 @@ use Rattle.scenario_files.specs.declared.filling.Scenario.{Scenario}
 use Rattle.scenario_files.specs.Words.{words_read}
 use Rattle.instance_pairs.specs.declared.instances.Instance.{Instance}
 use Rattle.instance_pairs.specs.Files.{instances_read}
-use Rattle.tuner.specs.Problem.{Problem}
-use Rattle.tuner.specs.ScenarioProblem.{whole_scenario, problem_from}
+use Rattle.tuner.specs.ScenarioTask.{whole_scenario, task_from}
 use Rattle.tuner.specs.declared.status.FileKind.{FileKind}
 use Rattle.tuner.specs.declared.status.FileKind.TheVariants as kind
 use Rattle.tuner.specs.declared.status.What.{What}
 use Rattle.tuner.specs.declared.status.What.TheVariants as what
+use Rattle.tuner.specs.declared.task.Task.{Task}
 
 -- words and files as a value, or the first refusal in the order in which they are read
 pub data Reading (A : Type 0) : Type 0 where
@@ -62,20 +62,20 @@ space_reading = file_reading kind.Params what.Params params_read
 abbrev pub instances_reading : (List ℕ → Option (List ℕ)) → List ℕ → Reading (List Instance)
 instances_reading = file_reading kind.Instances what.Instances instances_read
 
--- the problem that a scenario and the files that it names state
-abbrev pub problem_in : (List ℕ → Option (List ℕ)) → Scenario → Reading Problem
-problem_in contents scenario = do
+-- the task that a scenario and the files that it names state
+abbrev pub task_in : (List ℕ → Option (List ℕ)) → Scenario → Reading Task
+task_in contents scenario = do
   space ← space_reading contents scenario.paramfile
   instances ← instances_reading contents scenario.instance_file
-  Reads (problem_from scenario space instances)
+  Reads (task_from scenario space instances)
 
--- the problem that words and the files that they name state
-abbrev pub problem_by : (List ℕ → Option (List ℕ)) → Words → Reading Problem
-problem_by contents words = scenario_reading contents words.scenario_file words.draft >>= problem_in contents
+-- the task that words and the files that they name state
+abbrev pub task_by : (List ℕ → Option (List ℕ)) → Words → Reading Task
+task_by contents words = scenario_reading contents words.scenario_file words.draft >>= task_in contents
 
--- the problem that the words of a call and the files state
-abbrev pub problem_of : List (List ℕ) → (List ℕ → Option (List ℕ)) → Reading Problem
-problem_of words contents = words_reading (words_read words) >>= problem_by contents
+-- the task that the words of a call and the files state: the program, the approach and the problem
+abbrev pub problem_of : List (List ℕ) → (List ℕ → Option (List ℕ)) → Reading Task
+problem_of words contents = words_reading (words_read words) >>= task_by contents
 
 -- the name of a file that is to be read, once the files before it have a reading
 abbrev pub file_by : (List ℕ → Option (List ℕ)) → Words → FileKind → Reading (List ℕ)

@@ -1,4 +1,4 @@
--- Why words and files make no problem, and how that is said.
+-- Why words and files make no task, and how that is said.
 use Rattle.std.specs.Prelude.{ℕ, ◌≡◌, List, Option, Some, IfSome}
 use Rattle.outside.specs.Counts.{Rose}
 use Rattle.outside.specs.ToldStates.{SinkTold}

@@ -1,30 +1,29 @@
-//! A search is run, and how that ended is printed.
+//! How a board that was driven is printed.
 ghost use Rattle.std.specs.Prelude.{◌≡◌, ℕ, IsTrue, List, IfOk};
-ghost use Rattle.objective.specs.Costs.{Table};
+ghost use Rattle.std.specs.List.{Contains};
 ghost use Rattle.param_space.specs.Space.{Belongs};
-ghost use Rattle.uncapped.specs.Uncapped.{uncapped};
-ghost use Rattle.ils_face.specs.declared.rules.Rules.{Rules};
-ghost use Rattle.ils_face.specs.Setups.{setup_of};
-ghost use Rattle.ils_face.specs.Follows.{sums_under};
+ghost use Rattle.ils_face.specs.Steady.{IsAsk};
+ghost use Rattle.board_steps.specs.Ledgers.{take_event};
+ghost use Rattle.pool_run.specs.Drives.{IsAskedTicket, is_over};
 ghost use Rattle.tuner.specs.Calls.{Call};
-ghost use Rattle.tuner.specs.ProblemRuns.{procedure_of};
+ghost use Rattle.tuner.specs.CallStarts.{StartsOf};
 ghost use Rattle.tuner.specs.Lines;
 ghost use Rattle.tuner.specs.PrintedTexts.{Reported};
-ghost use Rattle.tuner.specs.Promises.{Conducted, RunsOn};
+ghost use Rattle.tuner.specs.Promises.{Conducted, KeepsFault, Runs};
 ghost use Rattle.tuner.specs.SearchEnds.{IsSearched};
+ghost use Rattle.tuner.specs.Tasks.{IsProcedureOf};
 
 use crate::lines::{end_line, lines_with, no_memory_line, run_line};
-use crate::problem::Problem;
 use crate::saying::{say_all, say_no_memory};
-use crate::searching::{Searched, meet_all};
-use crate::seat::Seat;
 use crate::status::Status;
-use ils_face::Search;
+use crate::task::Task;
+use board_steps::{Problem, Ticket};
+use ils_face::{Ask, Search};
 use objective::Memory;
 use outside::{Sink, Spawner};
-use run_cache::{Cache, Cell};
+use pool_core::{Board, Ending};
+use run_cache::Cell;
 use std::alloc::Global;
-use std::sync::Wait;
 
 /// Prints the incumbents of a search so far, and then this line of a call that is to end so.
 fn report<P: Search, O: Sink>(
@@ -36,7 +35,9 @@ fn report<P: Search, O: Sink>(
     out: &mut O,
 ) -> Status
     requires { P.rules_of search.now ≡ problem.now.rules }
-    ensures { (text : List ℕ) → IfOk line (λ l. l.items ≡ text) → Reported (O.told out.old) (O.told out.new) result end (Lines.lines_with problem.now.rules.space (P.shown problem.now.rules (P.replies_of search.now)).entries text) }
+    ensures { let entries = (P.shown problem.now.rules (P.replies_of search.now)).entries in
+        (text : List ℕ) → IfOk line (λ l. l.items ≡ text)
+        → Reported (O.told out.old) (O.told out.new) result end (Lines.lines_with problem.now.rules.space entries text) }
 {
     let entries = search.entries();
     let Ok(line) = line else {
@@ -56,8 +57,11 @@ fn report_end<P: Search, O: Sink>(
     out: &mut O,
 ) -> Status
     requires rules { P.rules_of search.now ≡ problem.now.rules }
-    requires searched { let view = P.shown problem.now.rules (P.replies_of search.now) in IsSearched problem.now.rules view.entries view.last }
-    ensures { let view = P.shown problem.now.rules (P.replies_of search.now) in Reported (O.told out.old) (O.told out.new) result Status.Ok (Lines.all_lines problem.now.rules.space view.entries view.last) }
+    requires searched { let view = P.shown problem.now.rules (P.replies_of search.now) in
+        IsSearched problem.now.rules view.entries view.last }
+    ensures { let view = P.shown problem.now.rules (P.replies_of search.now) in
+        let lines = Lines.all_lines problem.now.rules.space view.entries view.last in
+        Reported (O.told out.old) (O.told out.new) result Status.Ok lines }
 {
     let line = end_line(alloc, &problem.rules.space, search);
     report(alloc, problem, search, line, Status::Ok, out)
@@ -74,7 +78,10 @@ fn report_abort<P: Search, O: Sink>(
 ) -> Status
     requires rules { P.rules_of search.now ≡ problem.now.rules }
     requires sound { Belongs problem.now.rules.space.params cell.config }
-    ensures { let entries = (P.shown problem.now.rules (P.replies_of search.now)).entries in Reported (O.told out.old) (O.told out.new) result (Status.Aborted cell) (Lines.lines_with problem.now.rules.space entries (Lines.aborted_line problem.now.rules.space cell.place cell.config)) }
+    ensures { let entries = (P.shown problem.now.rules (P.replies_of search.now)).entries in
+        let line = Lines.aborted_line problem.now.rules.space cell.place cell.config in
+        let lines = Lines.lines_with problem.now.rules.space entries line in
+        Reported (O.told out.old) (O.told out.new) result (Status.Aborted cell) lines }
 {
     let line = run_line(
         alloc,
@@ -86,18 +93,22 @@ fn report_abort<P: Search, O: Sink>(
     report(alloc, problem, search, line, Status::Aborted { cell }, out)
 }
 
-/// Prints the incumbents of a search so far, and the place and the settings of the run that
-/// failed.
+/// Prints the incumbents of a search so far, and the place and the settings of the run of a
+/// seat that failed.
 fn report_failure<P: Search, O: Sink>(
     alloc: Global,
     problem: &Problem,
     search: &P,
+    seat: u32,
     cell: &Cell,
     out: &mut O,
 ) -> Status
     requires rules { P.rules_of search.now ≡ problem.now.rules }
     requires sound { Belongs problem.now.rules.space.params cell.now.config }
-    ensures { let entries = (P.shown problem.now.rules (P.replies_of search.now)).entries in Reported (O.told out.old) (O.told out.new) result (Status.ChildFault 0) (Lines.lines_with problem.now.rules.space entries (Lines.child_fault_line problem.now.rules.space cell.now.place cell.now.config)) }
+    ensures { let entries = (P.shown problem.now.rules (P.replies_of search.now)).entries in
+        let line = Lines.child_fault_line problem.now.rules.space cell.now.place cell.now.config in
+        let lines = Lines.lines_with problem.now.rules.space entries line in
+        Reported (O.told out.old) (O.told out.new) result (Status.ChildFault seat) lines }
 {
     let line = run_line(
         alloc,
@@ -111,47 +122,103 @@ fn report_failure<P: Search, O: Sink>(
         problem,
         search,
         line,
-        Status::ChildFault { seat: 0 },
+        Status::ChildFault { seat },
         out,
     )
 }
 
 /// Prints the incumbents of a search so far, and that there is no memory left; where there is
 /// none for their lines either, only that.
-fn report_no_memory<P: Search, O: Sink>(
+fn report_short<P: Search, O: Sink>(
     alloc: Global,
     problem: &Problem,
     search: &P,
     out: &mut O,
 ) -> Status
     requires { P.rules_of search.now ≡ problem.now.rules }
-    ensures { let entries = (P.shown problem.now.rules (P.replies_of search.now)).entries in Reported (O.told out.old) (O.told out.new) result Status.NoMemory (Lines.lines_with problem.now.rules.space entries Lines.no_memory_line) }
+    ensures { let entries = (P.shown problem.now.rules (P.replies_of search.now)).entries in
+        let lines = Lines.lines_with problem.now.rules.space entries Lines.no_memory_line in
+        Reported (O.told out.old) (O.told out.new) result Status.NoMemory lines }
 {
     let line = no_memory_line(alloc);
     report(alloc, problem, search, line, Status::NoMemory, out)
 }
 
-/// Runs the search of a problem on a seat, and prints how that ended. It may wait.
-pub(crate) fn run_search<R: Wait, P: Search, O: Sink, S: Spawner>(
-    rt: &R,
-    alloc: Global,
-    problem: &Problem,
-    out: &mut O,
-    seat: &mut Seat<S>,
-) -> Status
-    requires idle { IsTrue seat.old.idle }
-    requires procedure { (rules : Rules) (T : Table) → P.plain rules T ≡ uncapped (procedure_of problem.now.approach) (setup_of rules) (sums_under rules T) }
-    ensures idle { IsTrue seat.new.idle }
-    ensures ending { (call : Call) → RunsOn call problem.now S.truth seat.old seat.new → Conducted call (O.told out.old) (O.told out.new) result }
+/// What a search keeps by its laws, whatever it was replied.
+fn keeps_laws<P: Search>(search: &P)
+    ensures ask { let view = P.shown (P.rules_of search.now) (P.replies_of search.now) in
+        IsAsk (P.rules_of search.now) view.ask }
+    ensures end { let view = P.shown (P.rules_of search.now) (P.replies_of search.now) in
+        view.ask ≡ Ask.End → IsSearched (P.rules_of search.now) view.entries view.last }
 {
-    let Ok(mut search) = P::open(alloc, &problem.rules) else {
-        return say_no_memory(out);
-    };
-    let mut cache = Cache::new(alloc, problem.rules.limits);
-    match meet_all(rt, alloc, problem, &mut search, &mut cache, seat) {
-        Searched::Ended => report_end(alloc, problem, &search, out),
-        Searched::Aborted { cell } => report_abort(alloc, problem, &search, cell, out),
-        Searched::Failed { cell } => report_failure(alloc, problem, &search, &cell, out),
-        Searched::Memory => report_no_memory(alloc, problem, &search, out),
+    let _ = search.ask();
+}
+
+/// Prints how a board of this task came to its end.
+pub(crate) fn report_ending<P: Search, O: Sink, S: Spawner>(
+    alloc: Global,
+    task: &Task,
+    board: &Board<P, S>,
+    out: &mut O,
+) -> Status
+    requires problem { board.now.problem ≡ task.now.problem }
+    requires procedure { IsProcedureOf task.now.approach P.plain }
+    requires over { IsTrue (is_over P.shown board.now) }
+    ensures { (call : Call) → Runs call task.now S.truth → StartsOf call Status.Ok
+        → Conducted call (O.told out.old) (O.told out.new) result }
+{
+    board.is_board();
+    let (problem, search) = (&task.problem, board.search());
+    keeps_laws(search);
+    match board.ending() {
+        Ending::Finished => report_end(alloc, problem, search, out),
+        Ending::Aborted(cell) => match cell.copy() {
+            Ok(cell) => report_abort(alloc, problem, search, cell, out),
+            Err(_) => report_short(alloc, problem, search, out),
+        },
+        Ending::Running => unreachable!(),
     }
+}
+
+/// Prints what a board of this task shows so far, and the run of a seat's kept ticket.
+pub(crate) fn report_fault<P: Search, O: Sink, S: Spawner>(
+    alloc: Global,
+    task: &Task,
+    board: &Board<P, S>,
+    seat: u32,
+    ticket: &Ticket,
+    out: &mut O,
+) -> Status
+    requires problem { board.now.problem ≡ task.now.problem }
+    requires procedure { IsProcedureOf task.now.approach P.plain }
+    requires taken { Contains board.now.journal (take_event ticket.now) }
+    requires asked { IsAskedTicket task.now.problem ticket.now }
+    ensures { (call : Call) → Runs call task.now S.truth → KeepsFault call task.now seat ticket.now
+        → Conducted call (O.told out.old) (O.told out.new) result }
+{
+    board.is_board();
+    report_failure(
+        alloc,
+        &task.problem,
+        board.search(),
+        seat,
+        &ticket.cell,
+        out,
+    )
+}
+
+/// Prints what a board of this task shows so far, and that there is no memory left.
+pub(crate) fn report_no_memory<P: Search, O: Sink, S: Spawner>(
+    alloc: Global,
+    task: &Task,
+    board: &Board<P, S>,
+    out: &mut O,
+) -> Status
+    requires problem { board.now.problem ≡ task.now.problem }
+    requires procedure { IsProcedureOf task.now.approach P.plain }
+    ensures { (call : Call) → Runs call task.now S.truth
+        → Conducted call (O.told out.old) (O.told out.new) result }
+{
+    board.is_board();
+    report_short(alloc, &task.problem, board.search(), out)
 }

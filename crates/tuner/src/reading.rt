@@ -1,5 +1,5 @@
-//! Words and files as a problem.
+//! Words and files as a task.
 pub(crate) mod faults;
 pub(crate) mod files;
-pub(crate) mod problems;
 pub(crate) mod refusal;
+pub(crate) mod tasks;

@@ -3,29 +3,34 @@ ghost use Rattle.std.specs.Prelude.{◌≡◌, ℕ, IsTrue, All, List, Ok, lengt
 ghost use Rattle.outside.specs.WholePieces.{WroteBadly};
 ghost use Rattle.scenario_files.specs.Ranges.{AreWordsWithin};
 ghost use Rattle.scenario_files.specs.Words.{words_read};
-ghost use Rattle.tuner.specs.Calls.{Call, call_of};
+ghost use Rattle.tuner.specs.Calls.{Call, IsSeated, call_of};
 ghost use Rattle.tuner.specs.Causes.{HasCause};
 ghost use Rattle.tuner.specs.Lines;
 ghost use Rattle.tuner.specs.PrintedTexts.{Ending, Reported};
-ghost use Rattle.tuner.specs.Promises.{AbortSentence, Conducted, Headline, IsAbout, IsComplete, PrintsFirst, RefusesFaulty, RefusesMisused, RefusesUnseated, Starts};
+ghost use Rattle.tuner.specs.Promises.{AbortSentence, Conducted, Headline, IsAbout, IsComplete, PrintsFirst};
+ghost use Rattle.tuner.specs.Promises.{RefusesFaulty, RefusesMisused, RefusesUnseated, Starts};
 ghost use Rattle.tuner.specs.Refusals.{ReportsMisuse, ReportsRefusal};
+ghost use Rattle.tuner.specs.Tasks.{IsProcedureOf};
 
-use crate::finishing::run_search;
+use crate::driving::run_alone;
 use crate::lines::{bad_file_line, read_fault_line, seats_line, usage_line};
-use crate::problem::Problem;
-use crate::reading::problems::read_problem;
 use crate::reading::refusal::Refusal;
+use crate::reading::tasks::read_task;
 use crate::saying::{say_made, say_no_memory};
-use crate::seat::Seat;
 use crate::status::Status;
+use crate::task::Task;
+use crate::together::run_together;
 use basic_ils::Basic;
 use focused_ils::Focused;
+use ils_face::Search;
 use ils_frame::Ils;
 use outside::{Files, Sink, Spawner};
 use plain_text::Text;
+use pool_run::Seat;
 use scenario_files::{Approach, WordFault, Words, read_words};
 use std::alloc::Global;
 use std::sync::Wait;
+use std::thread::Threads;
 
 /// Prints why words are no call.
 fn refuse_words<O: Sink>(alloc: Global, fault: WordFault, out: &mut O) -> Status
@@ -39,7 +44,7 @@ fn refuse_words<O: Sink>(alloc: Global, fault: WordFault, out: &mut O) -> Status
     }
 }
 
-/// Prints why files make no problem.
+/// Prints why files make no task.
 fn refuse_files<O: Sink>(alloc: Global, refusal: Refusal, out: &mut O) -> Status
     ensures { ReportsRefusal refusal (O.told out.old) (O.told out.new) result }
 {
@@ -63,40 +68,62 @@ fn refuse_files<O: Sink>(alloc: Global, refusal: Refusal, out: &mut O) -> Status
 
 /// Prints that there are fewer seats than are asked for.
 fn refuse_seats<O: Sink>(alloc: Global, asked: u32, given: u32, out: &mut O) -> Status
-    ensures { Reported (O.told out.old) (O.told out.new) result (Status.TooFewSeats asked given) (Lines.seats_line asked given) }
+    ensures { let line = Lines.seats_line asked given in
+        Reported (O.told out.old) (O.told out.new) result (Status.TooFewSeats asked given) line }
 {
     let line = seats_line(alloc, asked, given);
     say_made(out, line, Status::TooFewSeats { asked, given })
 }
 
-/// Runs the search of a problem on the first seat, where there are as many seats as it asks
-/// for. It may wait.
-fn run_problem<R: Wait, O: Sink, S: Spawner>(
+/// Runs a task over this kind of search on as many of the seats as it asks for. It may wait.
+fn run_seated<R: Threads + Wait + Sync, P: Search + Send, O: Sink, S: Spawner + Send>(
     rt: &R,
     alloc: Global,
-    problem: &Problem,
+    task: &Task,
     out: &mut O,
     seats: &mut [Seat<S>],
 ) -> Status
-    requires { All (λ seat. IsTrue seat.idle) seats.old }
-    ensures ending { (call : Call) → IsAbout call problem.now S.truth seats.old seats.new → Conducted call (O.told out.old) (O.told out.new) result }
-    ensures idle { All (λ seat. IsTrue seat.idle) seats.new }
+    requires idle { All (λ seat. IsTrue seat.told.idle) seats.old }
+    requires procedure { IsProcedureOf task.now.approach P.plain }
+    requires seated { IsSeated (length seats.old) task.now }
+    ensures ending { (call : Call) → IsAbout call task.now S.truth seats.old seats.new
+        → Conducted call (O.told out.old) (O.told out.new) result }
+    ensures idle { All (λ seat. IsTrue seat.told.idle) seats.new }
 {
-    let workers = problem.workers();
+    let workers = task.workers();
+    if workers == 1 {
+        return run_alone::<R, P, O, S>(rt, alloc, task, out, &mut seats[0]);
+    }
+    let (seats, _) = seats.split_at_mut(workers as usize);
+    run_together::<R, P, O, S>(rt, alloc, task, out, seats)
+}
+
+/// Runs a task, where there are as many seats as it asks for. It may wait.
+fn run_task<R: Threads + Wait + Sync, O: Sink, S: Spawner + Send>(
+    rt: &R,
+    alloc: Global,
+    task: &Task,
+    out: &mut O,
+    seats: &mut [Seat<S>],
+) -> Status
+    requires { All (λ seat. IsTrue seat.told.idle) seats.old }
+    ensures ending { (call : Call) → IsAbout call task.now S.truth seats.old seats.new
+        → Conducted call (O.told out.old) (O.told out.new) result }
+    ensures idle { All (λ seat. IsTrue seat.told.idle) seats.new }
+{
+    let workers = task.workers();
     if seats.len() < workers as usize {
         return refuse_seats(alloc, workers, seats.len() as u32, out);
     }
-    let seat = &mut seats[0];
-    seat.clear();
-    match problem.approach() {
-        Approach::Basic => run_search::<R, Ils<Basic>, O, S>(rt, alloc, problem, out, seat),
-        Approach::Focused => run_search::<R, Ils<Focused>, O, S>(rt, alloc, problem, out, seat),
+    match task.approach {
+        Approach::Basic => run_seated::<R, Ils<Basic>, O, S>(rt, alloc, task, out, seats),
+        Approach::Focused => run_seated::<R, Ils<Focused>, O, S>(rt, alloc, task, out, seats),
     }
 }
 
 /// The call of words that have a reading, but for its log: the files are read, and the search
-/// is run on the first seat. It may wait.
-fn conduct_given<R: Wait, F: Files, O: Sink, S: Spawner>(
+/// is run. It may wait.
+fn conduct_given<R: Threads + Wait + Sync, F: Files, O: Sink, S: Spawner + Send>(
     rt: &R,
     alloc: Global,
     given: Words,
@@ -105,19 +132,20 @@ fn conduct_given<R: Wait, F: Files, O: Sink, S: Spawner>(
     seats: &mut [Seat<S>],
 ) -> Status
     requires words { AreWordsWithin given }
-    requires idle { All (λ seat. IsTrue seat.idle) seats.old }
+    requires idle { All (λ seat. IsTrue seat.told.idle) seats.old }
     ensures ending { (words : List (List ℕ)) → words_read words ≡ Ok given →
-        Conducted (call_of words (F.told files.old) (F.told files.new) S.truth seats.old seats.new) (O.told out.old) (O.told out.new) result }
-    ensures idle { All (λ seat. IsTrue seat.idle) seats.new }
+        let call = call_of words (F.told files.old) (F.told files.new) S.truth seats.old seats.new in
+        Conducted call (O.told out.old) (O.told out.new) result }
+    ensures idle { All (λ seat. IsTrue seat.told.idle) seats.new }
 {
-    match read_problem(alloc, files, given) {
-        Ok(problem) => run_problem(rt, alloc, &problem, out, seats),
+    match read_task(alloc, files, given) {
+        Ok(task) => run_task(rt, alloc, &task, out, seats),
         Err(refusal) => refuse_files(alloc, refusal, out),
     }
 }
 
 /// The call but for its log. It may wait.
-fn conduct<R: Wait, F: Files, O: Sink, S: Spawner>(
+fn conduct<R: Threads + Wait + Sync, F: Files, O: Sink, S: Spawner + Send>(
     rt: &R,
     alloc: Global,
     words: &[Text],
@@ -125,9 +153,10 @@ fn conduct<R: Wait, F: Files, O: Sink, S: Spawner>(
     out: &mut O,
     seats: &mut [Seat<S>],
 ) -> Status
-    requires { All (λ seat. IsTrue seat.idle) seats.old }
-    ensures ending { Conducted (call_of words.now (F.told files.old) (F.told files.new) S.truth seats.old seats.new) (O.told out.old) (O.told out.new) result }
-    ensures idle { All (λ seat. IsTrue seat.idle) seats.new }
+    requires { All (λ seat. IsTrue seat.told.idle) seats.old }
+    ensures ending { let call = call_of words.now (F.told files.old) (F.told files.new) S.truth seats.old seats.new in
+        Conducted call (O.told out.old) (O.told out.new) result }
+    ensures idle { All (λ seat. IsTrue seat.told.idle) seats.new }
 {
     match read_words(alloc, words) {
         Ok(given) => conduct_given(rt, alloc, given, files, out, seats),
@@ -136,15 +165,21 @@ fn conduct<R: Wait, F: Files, O: Sink, S: Spawner>(
 }
 
 /// Tunes: reads the words and the files that they name, searches for the best settings by
-/// runs of the first seat, and prints each incumbent and the last line. It may wait.
+/// runs of as many seats as the scenario has workers, and prints each incumbent and the last
+/// line. It may wait.
 ///
 /// What a run has shown isn't run again, and a run gets no more time than could change its
 /// comparison: what is printed is what full runs would lead to.
 ///
-/// There have to be as many seats as the scenario has workers, though one is used so far.
-/// `out` gets the lines; `log` gets nothing yet. The status says how it ended, and each
+/// With several workers one seat runs what the search needs, while others run ahead what it may
+/// need soon; what isn't wanted any more is killed. What is promised of the output is the same for
+/// every number of workers, whatever the order in which children end; nothing is promised of
+/// which seat runs what, or of the time that it takes.
+///
+/// There have to be as many seats as the scenario has workers; a seat that is used is cleared
+/// first. `out` gets the lines; `log` gets nothing yet. The status says how it ended, and each
 /// answer but `NoMemory` has its cause in a clause.
-pub fn tune<R: Wait, F: Files, O: Sink, S: Spawner + Send>(
+pub fn tune<R: Threads + Wait + Sync, F: Files, O: Sink, S: Spawner + Send>(
     rt: &R,
     alloc: Global,
     words: &[Text],
@@ -153,15 +188,15 @@ pub fn tune<R: Wait, F: Files, O: Sink, S: Spawner + Send>(
     log: &mut O,
     seats: &mut [Seat<S>],
 ) -> Status
-    requires { All (λ seat. IsTrue seat.idle) seats.old }
+    requires { All (λ seat. IsTrue seat.told.idle) seats.old }
 
     // With Ok the output took the lines of a search that made all comparisons, and nothing
     // else; where the seats tell a truth that never aborts, they are those of the uncapped
     // procedure.
     ensures headline { Headline words.now (F.told files.old) S.truth (O.told out.old) (O.told out.new) result }
 
-    // With Ok each start was of a run that was due, under the cutoff that was due for it, and
-    // a cell was run again only with more time, after a timeout.
+    // With Ok and one worker each start was of a run that was due, under the cutoff that was due
+    // for it, and a cell was run again only with more time, after a timeout.
     ensures starts { Starts words.now (F.told files.old) (F.told files.new) S.truth seats.old seats.new result }
 
     // Each answer but NoMemory has its cause, and each refusal comes where its cause is.
@@ -179,10 +214,11 @@ pub fn tune<R: Wait, F: Files, O: Sink, S: Spawner + Send>(
     ensures aborts { AbortSentence words.now (F.told files.old) S.truth (O.told out.old) (O.told out.new) result }
     ensures first_entries { PrintsFirst words.now (F.told files.old) S.truth (O.told out.old) (O.told out.new) }
 
-    // What the output holds after each answer, also where it couldn't be written whole.
+    // What the output holds after each answer, also where it couldn't be written whole; with
+    // ChildFault the entries that come before the failed run's ask are among them.
     ensures ending { Ending words.now (F.told files.old) S.truth seats.new (O.told out.old) (O.told out.new) result }
     ensures log { log.new ≡ log.old }
-    ensures idle { All (λ seat. IsTrue seat.idle) seats.new }
+    ensures idle { All (λ seat. IsTrue seat.told.idle) seats.new }
 {
     let _ = &log;
     conduct(rt, alloc, words, files, out, seats)

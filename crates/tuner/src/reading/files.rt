@@ -1,4 +1,4 @@
-//! The three files of a problem: each is read, and has a reading or a first fault.
+//! The three files of a task: each is read, and has a reading or a first fault.
 ghost use Rattle.std.specs.Prelude.{◌≡◌, ◌≤◌, IfOk, IfErr, IfSome, length};
 ghost use Rattle.plain_text.specs.Faults.{IsFound};
 ghost use Rattle.scenario_files.specs.Faults.{fault_of};
@@ -6,7 +6,7 @@ ghost use Rattle.scenario_files.specs.Ranges.{AreWithin, IsScenarioWithin};
 ghost use Rattle.instance_pairs.specs.Limits.{max_instances};
 ghost use Rattle.tuner.specs.Readings.{file_bytes, scenario_reading, space_reading, instances_reading, Reads};
 ghost use Rattle.tuner.specs.Refusals.{IsCause, IsFile};
-ghost use Rattle.tuner.specs.ScenarioProblem.{whole_scenario};
+ghost use Rattle.tuner.specs.ScenarioTask.{whole_scenario};
 
 use crate::reading::faults::{instances_fault, params_fault, scenario_fault};
 use crate::reading::refusal::{Refusal, refusal_of};

@@ -1,4 +1,4 @@
-//! Why files make no problem.
+//! Why files make no task.
 ghost use Rattle.std.specs.Prelude.{◌≡◌};
 ghost use Rattle.tuner.specs.Refusals.{IsRefusedFor};
 ghost use Rattle.tuner.specs.declared.reading.refusal.Refusal.TheVariants;
@@ -9,7 +9,7 @@ use objective::Memory;
 use plain_text::Text;
 use std::alloc::Global;
 
-/// Why files make no problem.
+/// Why files make no task.
 #[derive(Drop)]
 pub(crate) enum Refusal {
     /// A file has no reading.

@@ -1,0 +1,16 @@
+use Rattle.std.proofs.Common.{ap, ◌∙◌}
+use Rattle.std.proofs.lemmas.Result.{IfOk-weaker}
+use Rattle.board_steps.specs.Boards.{plain}
+use Rattle.tuner.proofs.driving.open_board.Goals as goal
+
+pub returns-clause-problem : goal.returns-clause-problem
+unfolding plain
+returns-clause-problem g c = IfOk-weaker c.open.result _ _ (λ b e. ap (λ p. p.problem) e ∙ c.in_ok-copy.ensures) c.open.ensures.board
+
+pub returns-clause-free : goal.returns-clause-free
+unfolding plain
+returns-clause-free g c = IfOk-weaker c.open.result _ _ (λ b e. ap (λ p. p.live) e) c.open.ensures.board
+
+pub returns-clause-going : goal.returns-clause-going
+unfolding plain
+returns-clause-going g c = IfOk-weaker c.open.result _ _ (λ b e. ap (λ p. p.stopped) e) c.open.ensures.board

@@ -1,8 +1,0 @@
-use Rattle.std.proofs.Common.{◌≡◌, map, take}
-use Rattle.param_space.specs.Settings.{name_and_value}
-use Rattle.tuner.specs.ProblemRuns.{setting_from}
-use Rattle.tuner.proofs.problem.settings_of.Given as goal
-
--- the settings so far
-abbrev pub invariant-loop-named : goal.invariant-loop-named
-invariant-loop-named l = l.settings.items ≡ map setting_from (map name_and_value (take l.named-index l.named-items))

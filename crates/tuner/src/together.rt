@@ -1,0 +1,274 @@
+//! The board of a task is worked on by several seats beside each other.
+ghost use Rattle.std.specs.Prelude.{◌≡◌, ◌<◌, ◌≤◌, ℕ, List, All, IsTrue, IfOk, IfSome, IsSomeAnd, length, slice_get, slice_index_or};
+ghost use Rattle.std.specs.List.{AllZip};
+ghost use Rattle.board_steps.specs.Ledgers.{take_event};
+ghost use Rattle.board_steps.specs.Numbering.{IsRunnableTake};
+ghost use Rattle.pool_run.specs.Drives.{IsAskedTicket};
+ghost use Rattle.pool_run.specs.Seats.{SeatState, fault_of};
+ghost use Rattle.tuner.specs.Calls.{Call};
+ghost use Rattle.tuner.specs.Promises.{Conducted, Runs};
+ghost use Rattle.tuner.specs.SeatsTogether.{HasSeats, HasWorkedOn, IsTakenIn};
+ghost use Rattle.tuner.specs.Tasks.{IsProcedureOf};
+
+use crate::driving::{drive_board, open_board, run_alone};
+use crate::finishing::{report_ending, report_fault, report_no_memory};
+use crate::saying::say_no_memory;
+use crate::status::Status;
+use crate::task::Task;
+use board_steps::{Event, Kind, Problem, Ticket};
+use ils_face::Search;
+use objective::Memory;
+use outside::{Sink, Spawner};
+use pool_core::Board;
+use pool_run::{Seat, is_over, work};
+use std::alloc::Global;
+use std::sync::{Condvar, Mutex, Wait};
+use std::thread;
+use std::thread::Threads;
+use wrapper_lines::{Program, Run};
+
+/// Lets a seat work on a board, after what it keeps of an earlier tuning is dropped. It may wait.
+fn work_anew<R: Wait, P: Search, S: Spawner>(
+    rt: &R,
+    board: &Mutex<Board<P, S>>,
+    bell: &Condvar,
+    program: &Program,
+    seat: &mut Seat<S>,
+)
+    requires { IsTrue seat.old.told.idle }
+    ensures { HasWorkedOn seat.old seat.new }
+{
+    seat.clear();
+    work(rt, board, bell, program, seat);
+}
+
+/// Lets seats work on a board beside each other. Of the board that comes back only what its type keeps is
+/// known. It may wait.
+fn work_all<R: Threads + Wait + Sync, P: Search + Send, S: Spawner + Send>(
+    rt: &R,
+    board: Board<P, S>,
+    program: &Program,
+    seats: &mut [Seat<S>],
+) -> Board<P, S>
+    requires idle { All (λ seat. IsTrue seat.told.idle) seats.old }
+    requires some { 0 < length seats.old }
+    ensures all { length seats.new ≡ length seats.old }
+    ensures worked { (i : ℕ) (d : _) → i < length seats.old → HasWorkedOn (slice_index_or seats.old i d) (slice_index_or seats.new i d) }
+{
+    let board = Mutex::new(board);
+    let bell = Condvar::new();
+    let threads = seats.len();
+    thread::for_each_mut(
+        rt,
+        seats,
+        threads,
+        &|_, seat| work_anew(rt, &board, &bell, program, seat),
+    );
+    board.into_inner()
+}
+
+/// Whether an event of a problem's board is that this ticket was taken, which was asked for.
+fn is_take_of(
+    alloc: Global,
+    problem: &Problem,
+    event: &Event,
+    ticket: &Ticket,
+) -> Result<bool, Memory>
+    requires { IsRunnableTake problem.now.rules event.now }
+    ensures event { IfOk result (λ own. IsTrue own → event.now ≡ take_event ticket.now) }
+    ensures asked { IfOk result (λ own. IsTrue own → IsAskedTicket problem.now ticket.now) }
+{
+    let Event::Take {
+        number,
+        kind,
+        cell,
+        cutoff,
+        asked_at,
+    } = event
+    else {
+        return Ok(false);
+    };
+    if *number != ticket.number {
+        return Ok(false);
+    }
+    let own = Ticket {
+        number: *number,
+        cell: cell.copy()?,
+        run: Run {
+            key: problem.key_of(alloc, cell)?,
+            cutoff: *cutoff,
+        },
+        kind: *kind,
+        place: *asked_at,
+    };
+    match own.kind {
+        Kind::Asked => Ok(own.is(ticket)),
+        Kind::Ahead => Ok(false),
+    }
+}
+
+/// Whether this ticket is one that a board gave for a run that was needed.
+fn is_asked_on<P: Search, S: Spawner>(
+    alloc: Global,
+    board: &Board<P, S>,
+    ticket: &Ticket,
+) -> Result<bool, Memory>
+    ensures { IfOk result (λ own. IsTrue own → IsTakenIn board.now.problem board.now.journal ticket.now) }
+{
+    board.is_board();
+    for event in board.journal() {
+        if is_take_of(alloc, board.problem(), event, ticket)? {
+            return Ok(true);
+        }
+    }
+    Ok(false)
+}
+
+/// Whether a seat keeps a ticket of a board whose run failed.
+fn keeps_fault<P: Search, S: Spawner>(
+    alloc: Global,
+    board: &Board<P, S>,
+    seat: &Seat<S>,
+) -> Result<bool, Memory>
+    ensures { IfOk result (λ keeps. IsTrue keeps → IsSomeAnd (fault_of seat.now) (IsTakenIn board.now.problem board.now.journal)) }
+{
+    match seat.fault() {
+        Some(ticket) => is_asked_on(alloc, board, ticket),
+        None => Ok(false),
+    }
+}
+
+/// The number of the first seat that keeps a ticket of a board whose run failed.
+fn first_fault<P: Search, S: Spawner>(
+    alloc: Global,
+    board: &Board<P, S>,
+    seats: &[Seat<S>],
+) -> Result<Option<usize>, Memory>
+    ensures { IfOk result (λ o. IfSome o (λ k. IsSomeAnd (slice_get seats.now k) (λ seat. IsSomeAnd (fault_of seat) (IsTakenIn board.now.problem board.now.journal)))) }
+{
+    for k in 0..seats.len() {
+        if keeps_fault(alloc, board, &seats[k])? {
+            return Ok(Some(k));
+        }
+    }
+    Ok(None)
+}
+
+/// Whether one of these seats had no memory.
+fn is_short<S: Spawner>(seats: &[Seat<S>]) -> bool {
+    seats.iter().any(|seat| seat.short())
+}
+
+/// Prints what a board of this task shows so far, and the run of the ticket that a seat keeps.
+fn report_kept<P: Search, O: Sink, S: Spawner>(
+    alloc: Global,
+    task: &Task,
+    board: &Board<P, S>,
+    number: usize,
+    seats: &[Seat<S>],
+    out: &mut O,
+) -> Status
+    requires problem { board.now.problem ≡ task.now.problem }
+    requires procedure { IsProcedureOf task.now.approach P.plain }
+    requires all { length seats.now ≡ task.now.problem.rules.workers }
+    requires kept { IsSomeAnd (slice_get seats.now number) (λ seat. IsSomeAnd (fault_of seat) (IsTakenIn board.now.problem board.now.journal)) }
+    ensures { (call : Call) (before : List SeatState) → Runs call task.now S.truth → AllZip HasWorkedOn before seats.now
+        → HasSeats call before seats.now → Conducted call (O.told out.old) (O.told out.new) result }
+{
+    let _ = task.workers();
+    match seats[number].fault() {
+        Some(ticket) => report_fault(alloc, task, board, number as u32, ticket, out),
+        None => unreachable!(),
+    }
+}
+
+/// Lets the first seat drive a board of this task on, unless a seat had no memory, and prints how that
+/// ended. It may wait.
+fn go_on<R: Wait, P: Search, O: Sink, S: Spawner>(
+    rt: &R,
+    alloc: Global,
+    task: &Task,
+    board: &mut Board<P, S>,
+    out: &mut O,
+    seats: &mut [Seat<S>],
+) -> Status
+    requires idle { All (λ seat. IsTrue seat.told.idle) seats.old }
+    requires problem { board.old.problem ≡ task.now.problem }
+    requires procedure { IsProcedureOf task.now.approach P.plain }
+    requires several { 1 < task.now.problem.rules.workers }
+    requires all { length seats.old ≡ task.now.problem.rules.workers }
+    ensures idle { All (λ seat. IsTrue seat.told.idle) seats.new }
+    ensures ending { (call : Call) (before : List SeatState) → Runs call task.now S.truth → AllZip HasWorkedOn before seats.old
+        → HasSeats call before seats.new → Conducted call (O.told out.old) (O.told out.new) result }
+{
+    if is_short(seats) {
+        return report_no_memory(alloc, task, board, out);
+    }
+    match board.resume() {
+        Ok(()) => drive_board(rt, alloc, task, board, out, &mut seats[0]),
+        Err(_) => report_no_memory(alloc, task, board, out),
+    }
+}
+
+/// Whether both are the same problem.
+fn is_same(left: &Problem, right: &Problem) -> bool
+    ensures { IsTrue result → left.now ≡ right.now }
+{
+    *left == *right
+}
+
+/// Prints how a board on which these seats worked came to its end; where it is no board of this task, or
+/// isn't at its end, the first seat drives on. It may wait.
+fn conclude<R: Wait, P: Search, O: Sink, S: Spawner>(
+    rt: &R,
+    alloc: Global,
+    task: &Task,
+    board: &mut Board<P, S>,
+    out: &mut O,
+    seats: &mut [Seat<S>],
+) -> Status
+    requires idle { All (λ seat. IsTrue seat.told.idle) seats.old }
+    requires procedure { IsProcedureOf task.now.approach P.plain }
+    requires several { 1 < task.now.problem.rules.workers }
+    requires all { length seats.old ≡ task.now.problem.rules.workers }
+    ensures idle { All (λ seat. IsTrue seat.told.idle) seats.new }
+    ensures ending { (call : Call) (before : List SeatState) → Runs call task.now S.truth → AllZip HasWorkedOn before seats.old
+        → HasSeats call before seats.new → Conducted call (O.told out.old) (O.told out.new) result }
+{
+    if !is_same(board.problem(), &task.problem) {
+        return run_alone::<R, P, O, S>(rt, alloc, task, out, &mut seats[0]);
+    }
+    if is_over(board) {
+        return report_ending(alloc, task, board, out);
+    }
+    match first_fault(alloc, board, seats) {
+        Ok(Some(number)) => report_kept(alloc, task, board, number, seats, out),
+        Ok(None) => go_on(rt, alloc, task, board, out, seats),
+        Err(_) => report_no_memory(alloc, task, board, out),
+    }
+}
+
+/// Runs a task on as many seats as it asks for, and prints how that ended. It may wait.
+pub(crate) fn run_together<R: Threads + Wait + Sync, P: Search + Send, O: Sink, S: Spawner + Send>(
+    rt: &R,
+    alloc: Global,
+    task: &Task,
+    out: &mut O,
+    seats: &mut [Seat<S>],
+) -> Status
+    requires idle { All (λ seat. IsTrue seat.told.idle) seats.old }
+    requires procedure { IsProcedureOf task.now.approach P.plain }
+    requires several { 1 < task.now.problem.rules.workers }
+    requires all { length seats.old ≡ task.now.problem.rules.workers }
+    ensures idle { All (λ seat. IsTrue seat.told.idle) seats.new }
+    ensures ending { (call : Call) → Runs call task.now S.truth → HasSeats call seats.old seats.new
+        → Conducted call (O.told out.old) (O.told out.new) result }
+{
+    match open_board::<P, S>(alloc, &task.problem) {
+        Ok(board) => {
+            let mut board = work_all(rt, board, &task.program, seats);
+            conclude(rt, alloc, task, &mut board, out, seats)
+        }
+        Err(_) => say_no_memory(out),
+    }
+}
