@@ -217,10 +217,19 @@ fn read_last(file: &File, room: &mut Vec<u8>) -> io::Result<()> {
 }
 
 impl<P: OpenProcess> Running<P> {
+    /// Whether the child has ended. A look that a signal interrupts finds nothing.
+    fn has_ended(&mut self) -> io::Result<bool> {
+        match self.child.try_wait() {
+            Ok(status) => Ok(status.is_some()),
+            Err(error) if error.kind() == ErrorKind::Interrupted => Ok(false),
+            Err(error) => Err(error),
+        }
+    }
+
     /// Looks whether the child has ended, and then fills the room with the last bytes of its
     /// output.
     fn look(&mut self, room: &mut Vec<u8>) -> io::Result<Poll> {
-        if self.child.try_wait()?.is_none() {
+        if !self.has_ended()? {
             return Ok(Poll::Pending);
         }
         read_last(&self.output, room)?;
