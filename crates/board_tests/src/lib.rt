@@ -1,12 +1,16 @@
-//! Tests of the board: its steps by hand, and in any order. There is no code here, only tests.
+//! Tests of the board: its steps by hand, in any order, and as one seat drives them. There is no code here, only tests.
 #![tactic(auto)]
 
 #[cfg(test)]
 mod checks;
 #[cfg(test)]
+mod drives;
+#[cfg(test)]
 mod grid;
 #[cfg(test)]
 mod hands;
+#[cfg(test)]
+mod problems;
 #[cfg(test)]
 mod setups;
 #[cfg(test)]

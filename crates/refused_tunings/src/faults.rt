@@ -3,12 +3,13 @@ use crate::checks::check;
 use objective::Memory;
 use std::alloc::Global;
 use std::sync::Wait;
+use std::thread::Threads;
 use tuner::Status;
 use tuning_harness::{Faults, File, NONE, Tuning, WORDS, ran};
 
 /// Whether a tuning with these faults ends so with this code after so many failed starts and
 /// looks, and prints this.
-fn is_ended<R: Wait>(
+fn is_ended<R: Threads + Wait + Sync>(
     rt: &R,
     alloc: Global,
     faults: &Faults,
@@ -23,7 +24,7 @@ fn is_ended<R: Wait>(
 }
 
 /// Whether a tuning in which this start or this look fails names the child so.
-fn is_named<R: Wait>(
+fn is_named<R: Threads + Wait + Sync>(
     rt: &R,
     alloc: Global,
     start: u32,
@@ -51,7 +52,7 @@ fn failed_children_are_named(rt: HostRuntime) {
 
 /// A tuning by these words over these files in which this start or this look fails, and no
 /// child is pending.
-fn ran_failing<R: Wait>(
+fn ran_failing<R: Threads + Wait + Sync>(
     rt: &R,
     alloc: Global,
     words: &str,
@@ -78,36 +79,43 @@ fn is_last_named(
     line: &str,
 ) -> Result<bool, Memory> {
     let printed = format!(in alloc; "{entries}{line}")?;
-    let right = ran.status == Status::ChildFault { seat: 0 } && ran.failed == 1;
-    Ok(right && ran.started == started && ran.printed.as_slice() == printed.as_bytes())
+    let right = ran.status == Status::ChildFault { seat: 0 } && ran.status.code() == 7;
+    let right = right && ran.failed == 1 && ran.started == started;
+    Ok(right && ran.printed.as_slice() == printed.as_bytes())
 }
 
 /// Whether a tuning of one comparison in which this start or this look fails has so many
-/// starts, and prints the first entry and then this line.
-fn is_named_last<R: Wait>(
+/// starts, and prints these entries and then this line.
+fn is_named_last<R: Threads + Wait + Sync>(
     rt: &R,
     alloc: Global,
     start: u32,
     look: u32,
     started: usize,
+    entries: &str,
     line: &str,
 ) -> Result<bool, Memory> {
     let words = "-scenariofile|s|-maxComparisons|1";
     let ran = ran_failing(rt, alloc, words, &[], start, look)?;
-    is_last_named(alloc, &ran, started, "0 2 7.000000 x=a\n", line)
+    is_last_named(alloc, &ran, started, entries, line)
 }
 
 #[test]
 fn failed_children_of_a_comparison_are_named(rt: HostRuntime) {
-    // The comparison's children are b on both pairs, which are the third and the fourth. A
-    // failed start isn't among the starts; a child that was started is.
-    for (start, look, started, line) in &[
-        (3, 0, 2, "childfault 1 x=b\n"),
-        (4, 0, 3, "childfault 2 x=b\n"),
-        (0, 3, 3, "childfault 1 x=b\n"),
-        (0, 4, 4, "childfault 2 x=b\n"),
+    // The children are a on both pairs, and then b on both. A failed start isn't among the
+    // starts; a child that was started is.
+    let first = "0 2 7.000000 x=a\n";
+    for (start, look, started, entries, line) in &[
+        (1, 0, 0, "", "childfault 1 x=a\n"),
+        (2, 0, 1, "", "childfault 2 x=a\n"),
+        (3, 0, 2, first, "childfault 1 x=b\n"),
+        (4, 0, 3, first, "childfault 2 x=b\n"),
+        (0, 1, 1, "", "childfault 1 x=a\n"),
+        (0, 2, 2, "", "childfault 2 x=a\n"),
+        (0, 3, 3, first, "childfault 1 x=b\n"),
+        (0, 4, 4, first, "childfault 2 x=b\n"),
     ] {
-        let right = is_named_last(&rt, rt.alloc(), *start, *look, *started, line);
+        let right = is_named_last(&rt, rt.alloc(), *start, *look, *started, entries, line);
         check(&rt, matches!(right, Ok(true)), line);
     }
 }
@@ -117,7 +125,7 @@ const CONDITION: &[u8] = b"x {a, b} [a]\ny {1, 2} [1]\nConditionals:\ny | x in {
 
 /// Whether a tuning of three comparisons, of which the first finds b, in which this start fails
 /// has so many starts, and prints two entries and then this line.
-fn is_named_after_two<R: Wait>(
+fn is_named_after_two<R: Threads + Wait + Sync>(
     rt: &R,
     alloc: Global,
     start: u32,
@@ -145,7 +153,7 @@ fn entries_come_before_a_failed_child(rt: HostRuntime) {
 }
 
 /// Whether a tuning in which this write fails, or this one takes nothing, has printed this.
-fn is_cut_off<R: Wait>(
+fn is_cut_off<R: Threads + Wait + Sync>(
     rt: &R,
     alloc: Global,
     write: u32,
@@ -171,7 +179,7 @@ fn writes_that_fail_end_the_call(rt: HostRuntime) {
 
 /// Whether a tuning by these words over these instances ends by an abort of its last child, and
 /// prints this.
-fn is_aborted<R: Wait>(
+fn is_aborted<R: Threads + Wait + Sync>(
     rt: &R,
     alloc: Global,
     words: &str,
@@ -214,7 +222,7 @@ fn may_stand(status: &Status, bytes: &[u8]) -> bool {
 }
 
 /// Whether a tuning left what it may; that it isn't known is right, too.
-fn stands<R: Wait>(rt: &R, alloc: Global) -> bool {
+fn stands<R: Threads + Wait + Sync>(rt: &R, alloc: Global) -> bool {
     match ran(rt, alloc, WORDS, &[], &NONE) {
         Ok(ran) => may_stand(&ran.status, ran.printed.as_slice()),
         Err(Memory) => true,

@@ -3,6 +3,7 @@ use crate::checks::check;
 use objective::Memory;
 use std::alloc::Global;
 use std::sync::Wait;
+use std::thread::Threads;
 use tuner::{FileKind, Status};
 use tuning_harness::{Faults, File, NONE, SCENARIO, Tuning, WORDS, ran, ran_alone};
 
@@ -12,7 +13,7 @@ fn is_refused(ran: &Tuning, code: u8, line: &str) -> bool {
 }
 
 /// Whether a tuning over the usual files and these, of which this read fails, is refused so.
-fn is_refused_over<R: Wait>(
+fn is_refused_over<R: Threads + Wait + Sync>(
     rt: &R,
     alloc: Global,
     files: &[File<'_>],
@@ -37,7 +38,7 @@ fn reads_that_fail_are_named(rt: HostRuntime) {
 }
 
 /// Whether the parameter file is named where there is only a scenario file.
-fn missing_is_named<R: Wait>(rt: &R, alloc: Global) -> Result<bool, Memory> {
+fn missing_is_named<R: Threads + Wait + Sync>(rt: &R, alloc: Global) -> Result<bool, Memory> {
     let ran = ran_alone(rt, alloc, WORDS, &[("s", SCENARIO.as_bytes())])?;
     Ok(is_refused(&ran, 4, "readfault p\n"))
 }
@@ -73,7 +74,7 @@ fn files_that_have_a_fault_are_named(rt: HostRuntime) {
 }
 
 /// Whether a tuning of this parameter file, of which this read fails, is refused by this line.
-fn is_refused_by<R: Wait>(
+fn is_refused_by<R: Threads + Wait + Sync>(
     rt: &R,
     alloc: Global,
     params: &str,
@@ -117,7 +118,7 @@ fn parameter_files_that_have_a_fault_are_named(rt: HostRuntime) {
 }
 
 /// Whether a tuning of this scenario is refused by this line.
-fn is_refused_with<R: Wait>(
+fn is_refused_with<R: Threads + Wait + Sync>(
     rt: &R,
     alloc: Global,
     scenario: &str,
@@ -127,7 +128,7 @@ fn is_refused_with<R: Wait>(
 }
 
 /// Whether a tuning of the usual scenario and one more line is refused by this line.
-fn is_refused_after<R: Wait>(
+fn is_refused_after<R: Threads + Wait + Sync>(
     rt: &R,
     alloc: Global,
     last: &str,
@@ -178,7 +179,7 @@ fn many_params(alloc: Global, count: u32) -> Result<String, Memory> {
 }
 
 /// Whether a tuning over this parameter file is refused with this line and printed line.
-fn is_refused_at<R: Wait>(
+fn is_refused_at<R: Threads + Wait + Sync>(
     rt: &R,
     alloc: Global,
     params: &str,
@@ -194,7 +195,7 @@ fn is_refused_at<R: Wait>(
 }
 
 /// Whether 257 parameters are refused as too many.
-fn are_too_many<R: Wait>(rt: &R, alloc: Global) -> Result<bool, Memory> {
+fn are_too_many<R: Threads + Wait + Sync>(rt: &R, alloc: Global) -> Result<bool, Memory> {
     let text = many_params(alloc, 257)?;
     is_refused_at(rt, alloc, text.as_str(), 257, "badfile p 257 TooMany\n")
 }

@@ -3,11 +3,12 @@ use crate::checks::check;
 use objective::Memory;
 use std::alloc::Global;
 use std::sync::Wait;
+use std::thread::Threads;
 use tuner::Status;
 use tuning_harness::{NONE, WORDS, is_unseated, ran};
 
 /// Whether a tuning by these words ends with this code, and prints this line.
-fn is_refused<R: Wait>(
+fn is_refused<R: Threads + Wait + Sync>(
     rt: &R,
     alloc: Global,
     words: &str,

@@ -7,6 +7,7 @@ use outside::{MemoryFiles, MemorySink, Script, TableSeat};
 use plain_text::Text;
 use std::alloc::Global;
 use std::sync::Wait;
+use std::thread::Threads;
 use test_support::{numbers, words_between};
 use tuner::{Seat, Status, tune};
 
@@ -108,9 +109,9 @@ fn script(alloc: Global, faults: &Faults) -> Result<Script, Memory> {
 
 /// A seat with these faults.
 fn seat(alloc: Global, faults: &Faults) -> Result<Seat<TableSeat<Rows>>, Memory>
-    ensures { IfOk result (λ seat. IsTrue seat.idle) }
+    ensures { IfOk result (λ seat. IsTrue seat.told.idle) }
 {
-    Ok(Seat::new(TableSeat::new(alloc, script(alloc, faults)?)?))
+    Ok(Seat::new(alloc, TableSeat::new(alloc, script(alloc, faults)?)?))
 }
 
 /// Appends the words, parted by spaces, and ends the line.
@@ -191,7 +192,7 @@ fn outcome(
 }
 
 /// The one call of the tuner.
-fn tuned<R: Wait>(
+fn tuned<R: Threads + Wait + Sync>(
     rt: &R,
     alloc: Global,
     words: &[Text],
@@ -199,14 +200,14 @@ fn tuned<R: Wait>(
     out: &mut MemorySink,
     seats: &mut [Seat<TableSeat<Rows>>],
 ) -> Status
-    requires { All (λ seat. IsTrue seat.idle) seats.old }
+    requires { All (λ seat. IsTrue seat.told.idle) seats.old }
 {
     let mut log = MemorySink::new(alloc);
     tune(rt, alloc, words, files, out, &mut log, seats)
 }
 
 /// What a tuning by these words over this folder, this output and two seats comes to.
-fn ran_over<R: Wait>(
+fn ran_over<R: Threads + Wait + Sync>(
     rt: &R,
     alloc: Global,
     words: &[Text],
@@ -221,7 +222,7 @@ fn ran_over<R: Wait>(
 }
 
 /// What a tuning by these words over this folder and two seats comes to.
-fn ran_in<R: Wait>(
+fn ran_in<R: Threads + Wait + Sync>(
     rt: &R,
     alloc: Global,
     words: &str,
@@ -236,7 +237,7 @@ fn ran_in<R: Wait>(
 
 /// What a tuning by these words, parted by bars, comes to over two seats and the usual files;
 /// these files stand in the place of those of their names.
-pub fn ran<R: Wait>(
+pub fn ran<R: Threads + Wait + Sync>(
     rt: &R,
     alloc: Global,
     words: &str,
@@ -250,7 +251,7 @@ pub fn ran<R: Wait>(
 }
 
 /// What a tuning by these words, parted by bars, comes to over two seats and these files alone.
-pub fn ran_alone<R: Wait>(
+pub fn ran_alone<R: Threads + Wait + Sync>(
     rt: &R,
     alloc: Global,
     words: &str,
@@ -261,9 +262,45 @@ pub fn ran_alone<R: Wait>(
     ran_in(rt, alloc, words, &mut folder, &NONE)
 }
 
+/// So many seats with these faults.
+fn all_seats(
+    alloc: Global,
+    count: usize,
+    faults: &Faults,
+) -> Result<Vec<Seat<TableSeat<Rows>>>, Memory>
+    ensures { IfOk result (λ seats. All (λ seat. IsTrue seat.told.idle) seats.items) }
+{
+    let mut seats = Vec::new(alloc);
+    for _ in 0..count {
+        seats.push(seat(alloc, faults)?)?;
+    }
+    Ok(seats)
+}
+
+/// How a tuning by these words, parted by bars, over so many seats and the usual files ends, and what
+/// it prints; these files stand in the place of those of their names.
+pub fn printed_by<R: Threads + Wait + Sync>(
+    rt: &R,
+    alloc: Global,
+    seats: usize,
+    words: &str,
+    files: &[File<'_>],
+    faults: &Faults,
+) -> Result<(Status, Vec<u8>), Memory> {
+    let mut folder = MemoryFiles::new(alloc);
+    put_all(&mut folder, &usual())?;
+    put_all(&mut folder, files)?;
+    let words = words_between(alloc, words)?;
+    let mut out = MemorySink::new(alloc);
+    let mut seats = all_seats(alloc, seats, faults)?;
+    let seats = seats.as_mut_slice();
+    let status = tuned(rt, alloc, words.as_slice(), &mut folder, &mut out, seats);
+    Ok((status, Vec::from_slice(alloc, out.bytes())?))
+}
+
 /// Whether a tuning by these words, parted by bars, over the usual files and no seat ends so,
 /// and prints this.
-pub fn is_unseated<R: Wait>(
+pub fn is_unseated<R: Threads + Wait + Sync>(
     rt: &R,
     alloc: Global,
     words: &str,

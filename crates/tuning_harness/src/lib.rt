@@ -3,8 +3,10 @@
 
 mod harness;
 mod rows;
+mod toys;
 
 pub use harness::{
-    Faults, File, NONE, SCENARIO, Tuning, WORDS, is_unseated, ran, ran_alone, usual,
+    Faults, File, NONE, SCENARIO, Tuning, WORDS, is_unseated, printed_by, ran, ran_alone, usual,
 };
 pub use rows::Rows;
+pub use toys::{ToyTuning, ran_toy};

@@ -3,6 +3,7 @@ use crate::checks::check;
 use objective::Memory;
 use std::alloc::Global;
 use std::sync::Wait;
+use std::thread::Threads;
 use tuner::Status;
 use tuning_harness::{NONE, ran};
 
@@ -13,7 +14,7 @@ const ONE_VALUE: &str = "x {a} [a]\n";
 
 /// Whether a tuning by these words, of these parameters over these instances, prints this and
 /// starts these children.
-fn is_tuned<R: Wait>(
+fn is_tuned<R: Threads + Wait + Sync>(
     rt: &R,
     alloc: Global,
     words: &str,

@@ -10,3 +10,5 @@ mod focused;
 mod scenarios;
 #[cfg(test)]
 mod searches;
+#[cfg(test)]
+mod toys;

@@ -4,6 +4,7 @@ use crate::checks::check;
 use objective::Memory;
 use std::alloc::Global;
 use std::sync::Wait;
+use std::thread::Threads;
 use tuner::Status;
 use tuning_harness::{NONE, Tuning, WORDS, ran};
 
@@ -21,7 +22,7 @@ fn has_started(ran: &Tuning, count: usize, starts: &str) -> bool {
 }
 
 /// Whether a tuning by these words over these instances prints this.
-fn is_printed<R: Wait>(
+fn is_printed<R: Threads + Wait + Sync>(
     rt: &R,
     alloc: Global,
     words: &str,
@@ -33,7 +34,7 @@ fn is_printed<R: Wait>(
 }
 
 /// Whether a tuning by these words over these instances starts these children.
-fn is_started<R: Wait>(
+fn is_started<R: Threads + Wait + Sync>(
     rt: &R,
     alloc: Global,
     words: &str,
@@ -168,7 +169,7 @@ const ACTIVE: &str =
     "x {a, b} [a]\ny {1, 2} [1]\nForbidden:\n{x=b, y=1}\nConditionals:\ny | x in {a}";
 
 /// Whether a tuning over this parameter file prints this, and starts these two children.
-fn is_passed_on<R: Wait>(
+fn is_passed_on<R: Threads + Wait + Sync>(
     rt: &R,
     alloc: Global,
     params: &str,
@@ -204,7 +205,7 @@ const DRAWN: &str =
 
 /// The example of the README, with initial draws, restarts and several neighbours. Its wrapper
 /// takes 1.25 and 4 seconds with the heuristic `first`, and 1.5 and 2 with `random`.
-fn ten_are_printed<R: Wait>(rt: &R, alloc: Global) -> Result<bool, Memory> {
+fn ten_are_printed<R: Threads + Wait + Sync>(rt: &R, alloc: Global) -> Result<bool, Memory> {
     let params = b"heuristic {first, random} [first]\nrestarts {0, 10, 100} [10]\n".as_slice();
     let files = [
         ("s", DRAWN.as_bytes()),
@@ -266,7 +267,7 @@ const SAPS_SECONDS: &str = "cnf/a.cnf 1111\ncnf/b.cnf 1111\n";
 
 /// A tuning by these words of the usual scenario over these instances. There is no file of test
 /// instances.
-fn ran_usual<R: Wait>(
+fn ran_usual<R: Threads + Wait + Sync>(
     rt: &R,
     alloc: Global,
     words: &str,
@@ -292,7 +293,7 @@ fn are_all_in(folders: &str, folder: &str) -> bool {
 
 /// Whether one comparison of the usual scenario over these instances is printed, so many children
 /// are started in its folder, and no read failed.
-fn usual_is_read<R: Wait>(
+fn usual_is_read<R: Threads + Wait + Sync>(
     rt: &R,
     alloc: Global,
     words: &str,

@@ -4,11 +4,12 @@ use crate::checks::check;
 use objective::Memory;
 use std::alloc::Global;
 use std::sync::Wait;
+use std::thread::Threads;
 use tuner::Status;
 use tuning_harness::{NONE, SCENARIO, Tuning, ran};
 
 /// A tuning by these words of this scenario over these instances.
-fn searched_over<'a, R: Wait>(
+fn searched_over<'a, R: Threads + Wait + Sync>(
     rt: &R,
     alloc: Global,
     words: &str,
@@ -20,7 +21,7 @@ fn searched_over<'a, R: Wait>(
 }
 
 /// A tuning over children with these answers, of this scenario and with this budget.
-fn searched<R: Wait>(
+fn searched<R: Threads + Wait + Sync>(
     rt: &R,
     alloc: Global,
     answers: &str,
@@ -49,7 +50,7 @@ fn is_ended_with(
 }
 
 /// Whether a tuning with these answers and this budget ends so.
-fn is_searched<R: Wait>(
+fn is_searched<R: Threads + Wait + Sync>(
     rt: &R,
     alloc: Global,
     answers: &str,
@@ -68,7 +69,7 @@ type Lines = (&'static str, &'static str);
 
 /// Whether tunings with these answers and budgets from 0 on start so many of these children;
 /// they print the first lines with the budget 0, and the later ones with the others.
-fn are_searched<R: Wait>(
+fn are_searched<R: Threads + Wait + Sync>(
     rt: &R,
     alloc: Global,
     answers: &str,
@@ -137,7 +138,7 @@ fn better_settings_become_the_incumbent(rt: HostRuntime) {
 
 /// Whether the pairs of a's opening evaluation, which isn't left, cost ten cutoffs where they
 /// aren't solved; no run is cut short.
-fn costs_ten_cutoffs<R: Wait>(rt: &R, alloc: Global) -> Result<bool, Memory> {
+fn costs_ten_cutoffs<R: Threads + Wait + Sync>(rt: &R, alloc: Global) -> Result<bool, Memory> {
     let scenario = format!(in alloc; "{SCENARIO}overall_obj = mean10\n")?;
     let ran = searched(rt, alloc, "u19u", scenario.as_str(), "1")?;
     let lines = ("0 2 101.000000 x=a\n", "2 101.000000 x=a");
@@ -153,7 +154,7 @@ fn a_pair_that_is_not_solved_costs_ten_cutoffs(rt: HostRuntime) {
 
 /// Whether a child that would ask for the end of the tuning after 8 seconds is cut short after
 /// the 7 that are left.
-fn abort_is_cut_short<R: Wait>(rt: &R, alloc: Global) -> Result<bool, Memory> {
+fn abort_is_cut_short<R: Threads + Wait + Sync>(rt: &R, alloc: Global) -> Result<bool, Memory> {
     let ran = searched(rt, alloc, "34l1", SCENARIO, "1")?;
     let lines = ("0 2 7.000000 x=a\n", "2 7.000000 x=a");
     let cells = "a1@10.000000 a2@10.000000 b1@7.000000 ";
@@ -171,7 +172,12 @@ const HEAD: &str =
     "algo = w\nparamfile = p\ninstance_file = i\ncutoff_time = 10\ncap_floor = 0.000001\napproach = basic\nN = 2\n";
 
 /// The code of a tuning with these numbers and this budget.
-fn code_with<R: Wait>(rt: &R, alloc: Global, numbers: &str, budget: &str) -> Result<u8, Memory> {
+fn code_with<R: Threads + Wait + Sync>(
+    rt: &R,
+    alloc: Global,
+    numbers: &str,
+    budget: &str,
+) -> Result<u8, Memory> {
     let scenario = format!(in alloc; "{HEAD}{numbers}pair_order = file\n")?;
     let ran = searched(rt, alloc, "3424", scenario.as_str(), budget)?;
     Ok(ran.status.code())
