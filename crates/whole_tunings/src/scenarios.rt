@@ -64,7 +64,7 @@ const DEFAULT: &str = "0 2 7.000000 x=a\nend 0 2 7.000000 x=a\n";
 fn tunings_print_their_lines(rt: HostRuntime) {
     for (name, words, instances, printed) in &[
         ("default settings", WORDS, "one\n", DEFAULT),
-        ("the first of two seats", TWO_SEATS, "one\n", DEFAULT),
+        ("two seats", TWO_SEATS, "one\n", DEFAULT),
         // The first pair isn't solved, and the child of the second crashes.
         (
             "pairs without a solution cost the cutoff",
@@ -124,7 +124,6 @@ w two 0 10.000000 2147483647 0 -x a
 fn tunings_start_their_children(rt: HostRuntime) {
     for (name, words, instances, count, starts) in &[
         ("default settings", WORDS, "one\n", 2, TWO_PAIRS),
-        ("the first of two seats", TWO_SEATS, "one\n", 2, TWO_PAIRS),
         (
             "due cutoffs",
             "-scenariofile|s|-maxComparisons|1",
