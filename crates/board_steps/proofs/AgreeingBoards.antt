@@ -31,7 +31,7 @@ use Rattle.board_steps.specs.Tickets.{live_at}
 use Rattle.board_steps.specs.JournalRuns.{runs_of, recorded_in, run_of, AreTaken}
 use Rattle.board_steps.specs.AgreeingBoards.{IsShown, IsAgreeing}
 use Rattle.board_steps.proofs.JournalRuns.{of-live, runs-other, runs-marks, runs-answer}
-use Rattle.board_steps.proofs.Ranges.{same_cell-equal}
+use Rattle.board_steps.proofs.SameCells.{same_cell-Decides}
 
 -- an answer that is what the outcome of each key shows, where the outcomes are told
 pub told-answer : (truth : Option (Key → Outcome)) (key : Key) (cutoff : ℕ) (answer : Answer) → IsSome truth
@@ -48,7 +48,7 @@ agrees-after limits T before cell known agrees learnt config place = at (is_at c
     at : (here : Bool) → is_at cell config place ≡ here → Agrees limits (if here then known else before config place) (T config place)
     at true e =
         let P : Cell → Type 0 = λ c. Agrees limits known (T c.config c.place) in
-        subst P (same_cell-equal cell (record { config = config; place = place }) e) learnt
+        subst P ((same_cell-Decides cell (record { config = config; place = place })).0 e) learnt
     at false e = agrees config place
 
 module _ (truth : Option (Key → Outcome)) where

@@ -1,16 +1,9 @@
 -- The live tickets that were asked for: the verdict on the present ask needs their runs.
-use Rattle.std.proofs.Common.{ℕ, ◌≡◌, ◌<◌, ◌≤◌, ◌+◌, ◌==◌, ◌++◌, ◌⊎◌, Bool, true, false, cond, List, [], ◌∷◌, Option, Some, All, length, get_or, refl, sym, ap, ◌∙◌, inl, inr, arith, subst, if◌then◌else◌}
+use Rattle.std.proofs.Common.{ℕ, ◌≡◌, ◌≤◌, ◌+◌, ◌++◌, ◌⊎◌, Bool, true, false, List, [], ◌∷◌, Some, All, length, refl, sym, ap, ◌∙◌, inl, inr, subst, if◌then◌else◌}
 use Rattle.std.specs.Prelude.{IfSome}
 use Rattle.std.specs.Cmp.Lexicographic.{pointwise}
-use Rattle.std.specs.Str.{bytes_eq}
-use Rattle.std.specs.List.{count_by, remove, slice_get}
-use Rattle.std.proofs.lemmas.Bool.{and_from, eq-eqb}
-use Rattle.std.proofs.lemmas.List.{length-map, get_or-map}
-use Rattle.std.proofs.lemmas.List.Elements.{All-nil, All-cons, All-push, All-weaker}
-use Rattle.std.proofs.lemmas.List.Folds.{find_at}
-use Rattle.std.proofs.lemmas.List.Sums.{sum_by-cons, sum_by-remove}
-use Rattle.std.proofs.lemmas.Option.{get_or_from_slice_get, slice_get_within}
-use Rattle.std.proofs.lemmas.Slice.Eq.{bytes_eq-Decides}
+use Rattle.std.specs.List.{count_by}
+use Rattle.std.proofs.lemmas.List.Elements.{All-nil, All-push, All-weaker}
 use Rattle.objective.specs.declared.Answer.{Answer}
 use Rattle.ils_face.specs.declared.asks.Ask.{Ask}
 use Rattle.ils_face.specs.declared.asks.Ask.TheVariants.{Full, Versus, End}
@@ -35,44 +28,10 @@ use Rattle.board_steps.specs.Numbering.{tickets_of}
 use Rattle.board_steps.specs.Phases.{config_of, ask_on, verdict_on, asked_cell, phase_of, wishes_on}
 use Rattle.board_steps.specs.Problem.{Problem}
 use Rattle.board_steps.specs.Steps.{same_wish, ticket_for, taken_on, with_ticket, known_from, with_answer, with_loss, with_kill, with_reply, with_wishes, with_abort, marked_board, stopped_board, resumed_board}
-use Rattle.board_steps.specs.Tickets.{same_cell, has_number, live_at, place_of, without}
+use Rattle.board_steps.specs.Tickets.{same_cell, live_at, without}
 use Rattle.board_steps.specs.AskedTickets.{IsRunAt, IsWanted, IfAsked, AreAsked}
 use Rattle.board_steps.proofs.GivenTickets.{IsNeededTicket, IsAheadTicket, verdict-open, given}
-use Rattle.board_steps.proofs.LiveTickets.{tickets-marked, tickets-marked_if, tickets-push, tickets-without, all-without}
-
--- ---- the other live tickets than one
-
--- a cell is the same as itself
-same-itself : (cell : Cell) → same_cell cell cell ≡ true
-same-itself cell = and_from (bytes_eq cell.config cell.config) (cell.place == cell.place) ((bytes_eq-Decides cell.config cell.config).1 refl) (eq-eqb cell.place cell.place refl)
-
--- none of a list passes that none is counted of
-all-fail : {X : Type 0} (p : X → Bool) (xs : List X) → count_by p xs ≡ 0 → All (λ x. p x ≡ false) xs
-all-fail p [] none = All-nil (λ x. p x ≡ false)
-all-fail p (x ∷ xs) none =
-    let parts = sum_by-cons (λ y. cond (p y) 1 0) x xs in
-    All-cons (λ y. p y ≡ false) x xs (fails (p x) (count_by p xs) (omega (arith, parts, none))) (all-fail p xs (omega (arith, parts, none)))
-  where
-    fails : (test : Bool) (n : ℕ) → cond test 1 0 + n ≡ 0 → test ≡ false
-    fails true n sum = absurd (omega (arith, sum))
-    fails false n sum = refl
-
--- where each cell has one live ticket at most, the others than one are of other cells
-pub others-apart : (live : List LiveTicket) (l : LiveTicket) → live_at live l.ticket.number ≡ Some l
-    → ((cell : Cell) → count_by (λ t. same_cell cell t.cell) (tickets_of live) ≤ 1)
-    → All (λ t. same_cell l.ticket.cell t.cell ≡ false) (tickets_of (without live l.ticket.number))
-others-apart live l found cells =
-    let p : Ticket → Bool = λ t. same_cell l.ticket.cell t.cell in
-    let i = place_of live l.ticket.number in
-    let at : ◌≡◌ {A = Option LiveTicket} (slice_get live i) (Some l) = sym (find_at (has_number l.ticket.number) live) ∙ found in
-    let within = slice_get_within live i l at in
-    let inside : i < length (tickets_of live) = omega (arith, within, length-map live (λ k. k.ticket)) in
-    let ticket : get_or (tickets_of live) i l.ticket ≡ l.ticket = get_or-map (λ k. k.ticket) live i l l.ticket within ∙ ap (λ k. k.ticket) (get_or_from_slice_get live i l l at) in
-    let one : ◌≡◌ {A = ℕ} (cond (p (get_or (tickets_of live) i l.ticket)) 1 0) 1 = ap (λ t. cond (p t) 1 0) ticket ∙ ap (λ b. cond b 1 0) (same-itself l.ticket.cell) in
-    let fewer = sum_by-remove (λ t. cond (p t) 1 0) (tickets_of live) i l.ticket inside in
-    let most = cells l.ticket.cell in
-    let none : count_by p (remove (tickets_of live) i) ≡ 0 = omega (arith, one, fewer, most) in
-    rw (tickets-without live l.ticket.number) (all-fail p (remove (tickets_of live) i) none)
+use Rattle.board_steps.proofs.LiveTickets.{tickets-marked, tickets-marked_if, tickets-push, all-without, others-apart}
 
 -- a cell that isn't at the place of an ask's configuration isn't at that of its question
 apart-asked : (ask : Ask) (cell : Cell) (place : ℕ) → is_at cell (config_of ask) place ≡ false
@@ -220,4 +179,4 @@ module _ (shown : Rules → List Reply → View) where
   }
     where
       both : All (λ t. (same_cell l.ticket.cell t.cell ≡ false) × IfAsked shown b t) (tickets_of (without b.live l.ticket.number))
-      both k d within = (others-apart b.live l found cells k d within, all-without (IfAsked shown b) b.live l.ticket.number asked.each k d within)
+      both k d within = (others-apart b.live l found (cells l.ticket.cell) k d within, all-without (IfAsked shown b) b.live l.ticket.number asked.each k d within)

@@ -1,6 +1,7 @@
 pub mod FoundTickets
 mod Rooms
 pub mod Ranges
+pub mod SameCells
 pub mod Numbered
 pub mod LiveTickets
 pub mod Replayed

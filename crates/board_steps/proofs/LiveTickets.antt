@@ -1,10 +1,11 @@
 -- Live tickets: their tickets, those that are found, and those without one.
-use Rattle.std.proofs.Common.{ℕ, suc, ◌≡◌, ◌++◌, ◌&&◌, ◌||◌, not, Bool, true, false, cond, List, [], ◌∷◌, Option, Some, None, All, map, take, drop, get_or, refl, sym, ap, ◌∙◌, arith, if◌then◌else◌}
+use Rattle.std.proofs.Common.{ℕ, suc, ◌≡◌, ◌<◌, ◌≤◌, ◌++◌, ◌&&◌, ◌||◌, not, Bool, true, false, cond, List, [], ◌∷◌, Option, Some, None, All, length, map, take, drop, get_or, refl, sym, ap, ◌∙◌, arith, if◌then◌else◌}
 use Rattle.std.specs.List.{count_by, remove, list_any, slice_get, drop-map}
 use Rattle.std.proofs.lemmas.Bool.{eqb-true}
 use Rattle.std.proofs.lemmas.List.{map-append, take-map, length-map, append_assoc, append-nil, get_or-map}
+use Rattle.std.proofs.lemmas.List.Elements.{All-nil, All-cons}
 use Rattle.std.proofs.lemmas.List.Folds.{find_at}
-use Rattle.std.proofs.lemmas.List.Sums.{sum_by-cons, passes_at_first}
+use Rattle.std.proofs.lemmas.List.Sums.{sum_by-cons, sum_by-remove, passes_at_first}
 use Rattle.std.proofs.lemmas.Option.{get_or_from_slice_get, slice_get_within, none-some}
 use Rattle.run_cache.specs.declared.cell.Cell.{Cell}
 use Rattle.board_steps.specs.declared.events.Event.{Event}
@@ -15,6 +16,7 @@ use Rattle.board_steps.specs.Ledgers.{unmarked}
 use Rattle.board_steps.specs.Numbering.{number_taken, number_ended, IsRunnableTake, AreNumbered, tickets_of}
 use Rattle.board_steps.specs.Problem.{Problem}
 use Rattle.board_steps.specs.Tickets.{same_cell, same_ticket, has_number, live_at, place_of, without, if_same, found_in, marked, marked_if, mark_event, mark_events, has_ticket}
+use Rattle.board_steps.proofs.SameCells.{same_cell-Decides}
 use Rattle.board_steps.proofs.Numbered.{numbered-other, numbered-end, all-remove}
 
 -- marking changes no ticket
@@ -80,6 +82,31 @@ none-of-cell (l ∷ live) cell none =
     neither : (a b : Bool) → (a || b) ≡ false → (a ≡ false) × (b ≡ false)
     neither true b none = absurd (let e : true ≡ false = none in cc)
     neither false b none = (refl, none)
+
+-- none passes where none is counted
+none-counted : {X : Type 0} (p : X → Bool) (xs : List X) → count_by p xs ≡ 0 → All (λ x. p x ≡ false) xs
+none-counted p [] none = All-nil (λ x. p x ≡ false)
+none-counted p (x ∷ xs) none =
+    let sum = sum_by-cons (λ y. cond (p y) 1 0) x xs in
+    All-cons (λ y. p y ≡ false) x xs (fails (p x) (omega (arith, sum, none))) (none-counted p xs (omega (arith, sum, none)))
+  where
+    fails : (b : Bool) → ◌≡◌ {A = ℕ} (cond b 1 0) 0 → b ≡ false
+    fails true e = absurd (cc)
+    fails false e = refl
+
+-- live tickets without one that alone is of its cell are of other cells
+pub others-apart : (live : List LiveTicket) (l : LiveTicket) → live_at live l.ticket.number ≡ Some l → count_by (λ t. same_cell l.ticket.cell t.cell) (tickets_of live) ≤ 1
+    → All (λ t. same_cell l.ticket.cell t.cell ≡ false) (tickets_of (without live l.ticket.number))
+others-apart live l found once =
+    let i = place_of live l.ticket.number in
+    let at : ◌≡◌ {A = Option LiveTicket} (slice_get live i) (Some l) = sym (find_at (has_number l.ticket.number) live) ∙ found in
+    let within = slice_get_within live i l at in
+    let inside : i < length (tickets_of live) = omega (arith, within, length-map live (λ k. k.ticket)) in
+    let ticket : get_or (tickets_of live) i l.ticket ≡ l.ticket = get_or-map (λ k. k.ticket) live i l l.ticket within ∙ ap (λ k. k.ticket) (get_or_from_slice_get live i l l at) in
+    let one : ◌≡◌ {A = ℕ} (cond (same_cell l.ticket.cell (get_or (tickets_of live) i l.ticket).cell) 1 0) 1 =
+    ap (λ t. cond (same_cell l.ticket.cell t.cell) 1 0) ticket ∙ ap (λ b. cond b 1 0) ((same_cell-Decides l.ticket.cell l.ticket.cell).1 refl) in
+    let fewer = sum_by-remove (λ t. cond (same_cell l.ticket.cell t.cell) 1 0) (tickets_of live) i l.ticket inside in
+    rw (tickets-without live l.ticket.number) (none-counted (λ t. same_cell l.ticket.cell t.cell) (remove (tickets_of live) i) (omega (arith, one, fewer, once)))
 
 -- a live ticket is ended
 pub numbered-without : (problem : Problem) (live : List LiveTicket) (next : ℕ) (journal : List Event) (l : LiveTicket) (e : Event)

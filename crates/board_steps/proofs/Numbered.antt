@@ -11,7 +11,8 @@ use Rattle.board_steps.specs.Numbering.{number_taken, number_ended, numbers_take
 use Rattle.board_steps.specs.Problem.{Problem}
 use Rattle.board_steps.specs.Tickets.{same_cell}
 use Rattle.std.proofs.lemmas.Bool.{eqb-true}
-use Rattle.board_steps.proofs.Ranges.{range-next, range-below, range-contains, count-none, lower-differs, one-more, one-more-alone, same_cell-equal, flat_map-push, flat_map-push_none}
+use Rattle.board_steps.proofs.Ranges.{range-next, range-below, range-contains, count-none, lower-differs, one-more, one-more-alone, flat_map-push, flat_map-push_none}
+use Rattle.board_steps.proofs.SameCells.{same_cell-Decides}
 
 -- one more event that ends what was taken before
 ends-push : (taken : List ℕ) (journal : List Event) (e : Event) → AreEndsOfTaken taken journal
@@ -88,7 +89,7 @@ numbered-take problem tickets next journal t number ticket alone n = record {
   cells = λ cell.
       let more = sum_by_push (λ u. cond (same_cell cell u.cell) 1 0) tickets t in
       rw more (one-more-alone (count_by (λ u. same_cell cell u.cell) tickets) (same_cell cell t.cell)
-      (λ same. ap (λ c. count_by (λ u. same_cell c u.cell) tickets) (same_cell-equal cell t.cell same) ∙ alone) (n.cells cell));
+      (λ same. ap (λ c. count_by (λ u. same_cell c u.cell) tickets) ((same_cell-Decides cell t.cell).0 same) ∙ alone) (n.cells cell));
   each = All-push (IsTicket problem (suc next)) tickets t (All-weaker (IsTicket problem next) (IsTicket problem (suc next)) (later problem next) tickets n.each) ticket;
   takes = All-push (IsRunnableTake problem.rules) journal (take_event t) n.takes ticket.runnable;
 }

@@ -1,16 +1,11 @@
 -- Lists of numbers that follow each other, and counts in lists.
 use Rattle.std.proofs.Common.{ℕ, suc, zero, ◌≡◌, ◌≤◌, ◌<◌, ◌+◌, ◌-◌, ◌==◌, ◌++◌, ◌&&◌, Bool, true, false, cond, List, [], ◌∷◌, All, refl, sym, ap, ◌∙◌, arith, inl, inr}
 use Rattle.std.specs.List.{Contains, count_by, flat_map, range_with_len}
-use Rattle.std.specs.Str.{bytes_eq}
-use Rattle.std.proofs.lemmas.Bool.{eqb-true}
 use Rattle.std.proofs.lemmas.Bool.Decides.{eqb_tells}
 use Rattle.std.proofs.lemmas.List.{flat_map_more, append-nil}
 use Rattle.std.proofs.lemmas.List.Elements.{All-head, All-tail, All-from_get_or}
 use Rattle.std.proofs.lemmas.List.FromFn.{get_or-range_with_len, length-range_with_len}
 use Rattle.std.proofs.lemmas.List.Sums.{sum_by-cons}
-use Rattle.std.proofs.lemmas.Slice.Eq.{bytes_eq-Decides}
-use Rattle.run_cache.specs.declared.cell.Cell.{Cell}
-use Rattle.board_steps.specs.Tickets.{same_cell}
 
 -- one more number
 range-push : (a n : ℕ) → range_with_len a (suc n) ≡ range_with_len a n ++ (a + n) ∷ []
@@ -65,13 +60,6 @@ and-left false b both = both
 pub and-right : (a b : Bool) → (a && b) ≡ true → b ≡ true
 and-right true b both = both
 and-right false b both = cc
-
--- cells that are the same are equal
-pub same_cell-equal : (one other : Cell) → same_cell one other ≡ true → one ≡ other
-same_cell-equal one other same =
-    let config : one.config ≡ other.config = (bytes_eq-Decides one.config other.config).0 (and-left (bytes_eq one.config other.config) (one.place == other.place) same) in
-    let place : one.place ≡ other.place = eqb-true one.place other.place (and-right (bytes_eq one.config other.config) (one.place == other.place) same) in
-    λ i. record { config = config i; place = place i }
 
 -- one more element's list
 pub flat_map-push : {X A : Type 0} (f : X → List A) (xs : List X) (x : X) → flat_map f (xs ++ x ∷ []) ≡ flat_map f xs ++ f x

@@ -1,16 +1,10 @@
 -- The runs that a journal records: they are rising, what is known comes of them, and the tickets that are live tell more.
-use Rattle.std.proofs.Common.{ℕ, ◌≡◌, ◌<◌, ◌≤◌, ◌++◌, ◌&&◌, not, Bool, true, false, cond, List, [], ◌∷◌, Option, Some, All, length, get_or, refl, sym, ap, subst, ◌∙◌, arith, if◌then◌else◌}
-use Rattle.std.specs.List.{count_by, remove, slice_get}
-use Rattle.std.specs.Cmp.Lexicographic.{bytes_decides}
-use Rattle.std.proofs.lemmas.Bool.{eq-eqb}
-use Rattle.std.proofs.lemmas.List.{append-nil, append_assoc, length-map, get_or-map}
-use Rattle.std.proofs.lemmas.List.Elements.{All-nil, All-cons, All-push}
-use Rattle.std.proofs.lemmas.List.Folds.{find_at}
-use Rattle.std.proofs.lemmas.List.Sums.{sum_by-cons, sum_by-remove}
-use Rattle.std.proofs.lemmas.Option.{get_or_from_slice_get, slice_get_within}
+use Rattle.std.proofs.Common.{◌≡◌, ◌≤◌, ◌++◌, ◌&&◌, not, Bool, true, false, List, [], ◌∷◌, Some, All, get_or, refl, sym, ap, subst, ◌∙◌, if◌then◌else◌}
+use Rattle.std.specs.List.{count_by}
+use Rattle.std.proofs.lemmas.List.{append-nil, append_assoc}
+use Rattle.std.proofs.lemmas.List.Elements.{All-push}
 use Rattle.objective.specs.declared.Answer.{Answer}
 use Rattle.ils_face.specs.Rules.{Rules}
-use Rattle.run_cache.specs.declared.cell.Cell.{Cell}
 use Rattle.run_cache.specs.Caches.{Knowledge}
 use Rattle.run_cache.specs.Knowledge.{is_settled}
 use Rattle.run_cache.specs.Runs.{IsRising, IsBacked}
@@ -24,11 +18,11 @@ use Rattle.board_steps.specs.declared.tickets.LiveTicket.{LiveTicket}
 use Rattle.board_steps.specs.declared.tickets.Ticket.{Ticket}
 use Rattle.board_steps.specs.Ledgers.{take_event}
 use Rattle.board_steps.specs.Numbering.{tickets_of}
-use Rattle.board_steps.specs.Tickets.{same_cell, has_number, live_at, place_of, without, mark_event, mark_events}
+use Rattle.board_steps.specs.Tickets.{same_cell, live_at, without, mark_event, mark_events}
 use Rattle.board_steps.specs.JournalRuns.{runs_of, recorded_in, run_of}
 use Rattle.board_steps.specs.RecordedRuns.{IsAskedTake, IsUnsettled, AreRecorded}
 use Rattle.board_steps.proofs.JournalRuns.{runs-other, runs-marks, of-live}
-use Rattle.board_steps.proofs.LiveTickets.{tickets-without, all-without}
+use Rattle.board_steps.proofs.LiveTickets.{all-without, others-apart}
 
 -- one more event that records no run, and takes no ticket ahead
 pub recorded-other : (rules : Rules) (known : Knowledge) (tickets : List Ticket) (journal : List Event) (e : Event) → recorded_in journal e ≡ [] → IsAskedTake e
@@ -83,35 +77,6 @@ recorded-take rules known tickets journal t tells_more is_asked r =
     }
 
 -- ---- an answer
-
--- a cell is the same as itself
-same_cell-itself : (cell : Cell) → same_cell cell cell ≡ true
-same_cell-itself cell = rw ((bytes_decides cell.config cell.config).1 refl, eq-eqb cell.place cell.place refl) refl
-
--- none passes where none is counted
-none-counted : {X : Type 0} (p : X → Bool) (xs : List X) → count_by p xs ≡ 0 → All (λ x. p x ≡ false) xs
-none-counted p [] none = All-nil (λ x. p x ≡ false)
-none-counted p (x ∷ xs) none =
-    let sum = sum_by-cons (λ y. cond (p y) 1 0) x xs in
-    All-cons (λ y. p y ≡ false) x xs (fails (p x) (omega (arith, sum, none))) (none-counted p xs (omega (arith, sum, none)))
-  where
-    fails : (b : Bool) → ◌≡◌ {A = ℕ} (cond b 1 0) 0 → b ≡ false
-    fails true e = absurd (cc)
-    fails false e = refl
-
--- live tickets without one that alone is of its cell are of other cells
-others-apart : (live : List LiveTicket) (l : LiveTicket) → live_at live l.ticket.number ≡ Some l → count_by (λ t. same_cell l.ticket.cell t.cell) (tickets_of live) ≤ 1
-    → All (λ t. same_cell l.ticket.cell t.cell ≡ false) (tickets_of (without live l.ticket.number))
-others-apart live l found once =
-    let i = place_of live l.ticket.number in
-    let at : ◌≡◌ {A = Option LiveTicket} (slice_get live i) (Some l) = sym (find_at (has_number l.ticket.number) live) ∙ found in
-    let within = slice_get_within live i l at in
-    let inside : i < length (tickets_of live) = omega (arith, within, length-map live (λ k. k.ticket)) in
-    let ticket : get_or (tickets_of live) i l.ticket ≡ l.ticket = get_or-map (λ k. k.ticket) live i l l.ticket within ∙ ap (λ k. k.ticket) (get_or_from_slice_get live i l l at) in
-    let one : ◌≡◌ {A = ℕ} (cond (same_cell l.ticket.cell (get_or (tickets_of live) i l.ticket).cell) 1 0) 1 =
-    ap (λ t. cond (same_cell l.ticket.cell t.cell) 1 0) ticket ∙ ap (λ b. cond b 1 0) (same_cell-itself l.ticket.cell) in
-    let fewer = sum_by-remove (λ t. cond (same_cell l.ticket.cell t.cell) 1 0) (tickets_of live) i l.ticket inside in
-    rw (tickets-without live l.ticket.number) (none-counted (λ t. same_cell l.ticket.cell t.cell) (remove (tickets_of live) i) (omega (arith, one, fewer, once)))
 
 -- an answer is learnt that a live ticket's run shows
 pub recorded-answer : (rules : Rules) (known : Knowledge) (live : List LiveTicket) (journal : List Event) (answer : Answer) (l : LiveTicket)

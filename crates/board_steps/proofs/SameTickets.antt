@@ -1,64 +1,62 @@
--- Tickets that are the same are equal.
-use Rattle.std.proofs.Common.{◌≡◌, ◌==◌, ◌&&◌, true, false, refl}
+-- The tests of sameness are true exactly of equal things.
+use Rattle.std.proofs.Common.{◌≡◌, true, false, refl, ap}
+use Rattle.std.specs.Bool.{Decides}
 use Rattle.std.specs.Cmp.Lexicographic.{pointwise}
-use Rattle.std.specs.Str.{bytes_eq}
-use Rattle.std.proofs.lemmas.Bool.{eqb-true}
-use Rattle.plain_text.proofs.SameItems.{same_items, same_text}
+use Rattle.std.proofs.lemmas.Bool.Decides.{Decides-and, Decides-eqb}
+use Rattle.std.proofs.lemmas.Slice.Eq.{bytes_eq-Decides, slice_eq-Decides}
+use Rattle.predictor.specs.declared.wish.Wish.{Wish}
 use Rattle.wrapper_lines.specs.declared.runs.Setting.{Setting}
 use Rattle.wrapper_lines.specs.declared.runs.Key.{Key}
 use Rattle.board_steps.specs.declared.tickets.Kind.{Kind}
 use Rattle.board_steps.specs.declared.tickets.Kind.TheVariants.{Asked, Ahead}
 use Rattle.board_steps.specs.declared.tickets.Ticket.{Ticket}
-use Rattle.board_steps.specs.Tickets.{same_setting, same_key, same_cell, same_kind, same_ticket}
-use Rattle.board_steps.proofs.Ranges.{and-left, and-right, same_cell-equal}
+use Rattle.board_steps.specs.Steps.{same_wish}
+use Rattle.board_steps.specs.Tickets.{same_setting, same_key, same_kind, same_ticket}
+use Rattle.board_steps.proofs.SameCells.{decides_also, same_cell-Decides}
 
--- kinds that are the same are equal
-same_kind-equal : (one other : Kind) → same_kind one other ≡ true → one ≡ other
-same_kind-equal Asked Asked same = refl
-same_kind-equal Ahead Ahead same = refl
-same_kind-equal Asked Ahead same = absurd (let e : false ≡ true = same in cc)
-same_kind-equal Ahead Asked same = absurd (let e : false ≡ true = same in cc)
+-- of wishes
+pub same_wish-Decides : (one other : Wish) → Decides (same_wish one other) (one ≡ other)
+same_wish-Decides one other =
+    decides_also (Decides-and _ _ (same_cell-Decides one.cell other.cell) (Decides-eqb one.cutoff.0 other.cutoff.0))
+    (λ p i. record { cell = p.0 i; cutoff = record { 0 = p.1 i } }) (λ same. (ap (λ w. w.cell) same, ap (λ w. w.cutoff.0) same))
 
--- settings that are the same are equal
-same_setting-equal : (one other : Setting) → same_setting one other ≡ true → one ≡ other
-same_setting-equal one other same =
-    let name = same_text one.name other.name (and-left (bytes_eq one.name other.name) (bytes_eq one.value other.value) same) in
-    let value = same_text one.value other.value (and-right (bytes_eq one.name other.name) (bytes_eq one.value other.value) same) in
-    λ i. record { name = name i; value = value i }
+-- of settings
+same_setting-Decides : (one other : Setting) → Decides (same_setting one other) (one ≡ other)
+same_setting-Decides one other =
+    decides_also (Decides-and _ _ (bytes_eq-Decides one.name other.name) (bytes_eq-Decides one.value other.value))
+    (λ p i. record { name = p.0 i; value = p.1 i }) (λ same. (ap (λ s. s.name) same, ap (λ s. s.value) same))
 
--- keys that are the same are equal
-same_key-equal : (one other : Key) → same_key one other ≡ true → one ≡ other
-same_key-equal one other same =
-    let seeds = one.seed == other.seed in
-    let instances = bytes_eq one.instance other.instance in
-    let specifics = bytes_eq one.specifics other.specifics in
-    let settings = pointwise same_setting one.settings other.settings in
-    let front = and-left (seeds && instances && specifics) settings same in
-    let pair = and-left (seeds && instances) specifics front in
-    let seed = eqb-true one.seed other.seed (and-left seeds instances pair) in
-    let instance = same_text one.instance other.instance (and-right seeds instances pair) in
-    let specific = same_text one.specifics other.specifics (and-right (seeds && instances) specifics front) in
-    let setting = same_items same_setting same_setting-equal one.settings other.settings (and-right (seeds && instances && specifics) settings same) in
-    λ i. record { instance = instance i; specifics = specific i; seed = seed i; settings = setting i }
+-- of keys
+same_key-Decides : (one other : Key) → Decides (same_key one other) (one ≡ other)
+same_key-Decides one other =
+    let settings = slice_eq-Decides same_setting-Decides one.settings other.settings (pointwise same_setting one.settings other.settings) refl in
+    let seed = Decides-and _ _ (Decides-eqb one.seed other.seed) settings in
+    let specifics = Decides-and _ _ (bytes_eq-Decides one.specifics other.specifics) seed in
+    let instance = Decides-and _ _ (bytes_eq-Decides one.instance other.instance) specifics in
+    decides_also instance
+    (λ p i. record { instance = p.0 i; specifics = p.1.0 i; seed = p.1.1.0 i; settings = p.1.1.1 i })
+    (λ same. (ap (λ k. k.instance) same, (ap (λ k. k.specifics) same, (ap (λ k. k.seed) same, ap (λ k. k.settings) same))))
+
+-- of kinds
+same_kind-Decides : (one other : Kind) → Decides (same_kind one other) (one ≡ other)
+same_kind-Decides Asked Asked = (λ is. refl, λ same. refl)
+same_kind-Decides Ahead Ahead = (λ is. refl, λ same. refl)
+same_kind-Decides Asked Ahead = (λ is. absurd (let e : false ≡ true = is in cc), λ same. absurd (cc))
+same_kind-Decides Ahead Asked = (λ is. absurd (let e : false ≡ true = is in cc), λ same. absurd (cc))
+
+-- of tickets
+pub same_ticket-Decides : (one other : Ticket) → Decides (same_ticket one other) (one ≡ other)
+unfolding same_ticket
+same_ticket-Decides one other =
+    let place = Decides-and _ _ (Decides-eqb one.number other.number) (Decides-eqb one.place other.place) in
+    let kind = Decides-and _ _ place (same_kind-Decides one.kind other.kind) in
+    let cell = Decides-and _ _ kind (same_cell-Decides one.cell other.cell) in
+    let cutoff = Decides-and _ _ cell (Decides-eqb one.run.cutoff.0 other.run.cutoff.0) in
+    let key = Decides-and _ _ cutoff (same_key-Decides one.run.key other.run.key) in
+    decides_also key
+    (λ p i. record { number = p.0.0.0.0.0 i; place = p.0.0.0.0.1 i; kind = p.0.0.0.1 i; cell = p.0.0.1 i; run = record { key = p.1 i; cutoff = record { 0 = p.0.1 i } } })
+    (λ same. (((((ap (λ t. t.number) same, ap (λ t. t.place) same), ap (λ t. t.kind) same), ap (λ t. t.cell) same), ap (λ t. t.run.cutoff.0) same), ap (λ t. t.run.key) same))
 
 -- tickets that are the same are equal
 pub same_ticket-equal : (one other : Ticket) → same_ticket one other ≡ true → one ≡ other
-unfolding same_ticket
-same_ticket-equal one other same =
-    let numbers = one.number == other.number in
-    let places = one.place == other.place in
-    let kinds = same_kind one.kind other.kind in
-    let cells = same_cell one.cell other.cell in
-    let cutoffs = one.run.cutoff.0 == other.run.cutoff.0 in
-    let keys = same_key one.run.key other.run.key in
-    let five = and-left (numbers && places && kinds && cells && cutoffs) keys same in
-    let four = and-left (numbers && places && kinds && cells) cutoffs five in
-    let three = and-left (numbers && places && kinds) cells four in
-    let two = and-left (numbers && places) kinds three in
-    let number = eqb-true one.number other.number (and-left numbers places two) in
-    let place = eqb-true one.place other.place (and-right numbers places two) in
-    let kind = same_kind-equal one.kind other.kind (and-right (numbers && places) kinds three) in
-    let cell = same_cell-equal one.cell other.cell (and-right (numbers && places && kinds) cells four) in
-    let cutoff = eqb-true one.run.cutoff.0 other.run.cutoff.0 (and-right (numbers && places && kinds && cells) cutoffs five) in
-    let key = same_key-equal one.run.key other.run.key (and-right (numbers && places && kinds && cells && cutoffs) keys same) in
-    λ i. record { number = number i; cell = cell i; run = record { key = key i; cutoff = record { 0 = cutoff i } }; kind = kind i; place = place i }
+same_ticket-equal one other = (same_ticket-Decides one other).0

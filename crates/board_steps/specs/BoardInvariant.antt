@@ -1,6 +1,5 @@
 -- What holds of each board.
-use Rattle.std.specs.Prelude.{◌≡◌, ◌-◌, Bool, List, Option, All, IsSome, true}
-use Rattle.std.specs.Cmp.Lexicographic.{pointwise}
+use Rattle.std.specs.Prelude.{◌≡◌, List, Option, All, IsSome, true}
 use Rattle.objective.specs.Costs.{Table}
 use Rattle.objective.specs.declared.Outcome.{Outcome}
 use Rattle.wrapper_lines.specs.declared.runs.Key.{Key}
@@ -8,8 +7,6 @@ use Rattle.uncapped.specs.Uncapped.{Run}
 use Rattle.ils_face.specs.declared.asks.Reply.{Reply}
 use Rattle.ils_face.specs.Rules.{Rules, AreRules}
 use Rattle.ils_face.specs.Views.{View}
-use Rattle.run_cache.specs.Caches.{known_in}
-use Rattle.predictor.specs.Wishes.{wishes_of}
 use Rattle.board_steps.specs.AbortedCells.{IsAborting}
 use Rattle.board_steps.specs.AgreeingBoards.{IsAgreeing}
 use Rattle.board_steps.specs.AskedTickets.{AreAsked}
@@ -21,7 +18,6 @@ use Rattle.board_steps.specs.RangedBoards.{IsRanged}
 use Rattle.board_steps.specs.RecordedRuns.{AreRising}
 use Rattle.board_steps.specs.RepliedAsks.{AreReplied}
 use Rattle.board_steps.specs.Replays.{replay}
-use Rattle.board_steps.specs.Steps.{same_wish}
 use Rattle.board_steps.specs.SummedReplies.{AreSummed}
 
 -- every live ticket of a stopped board is marked
@@ -44,14 +40,3 @@ pub record BoardInvariant (shown : Rules → List Reply → View) (procedure : R
   pub agrees : IsSome truth → IsAgreeing truth (plain b)
   pub replies : IsSome truth → AreReplied procedure truth (plain b)
   pub due : IsSome truth → AreDueTickets procedure truth (plain b)
-
--- the wishes of the present board are those that it has
-abbrev pub AreWishedNow : (Rules → List Reply → View) → BoardState → Type 0
-AreWishedNow shown b =
-    pointwise same_wish b.wishes (wishes_of (shown b.problem.rules) b.problem.rules.limits (known_in b.cache) b.replies (b.problem.rules.workers - 1)) ≡ true
-
--- a search that goes by a board's problem, and what holds of the board; whether its wishes are known to be fresh
-pub record IsBoard (shown : Rules → List Reply → View) (procedure : Rules → Table → Run) (truth : Option (Key → Outcome)) (rules : Rules) (fresh : Bool) (b : BoardState) : Type 0 where
-  pub rules_same : rules ≡ b.problem.rules
-  pub board : BoardInvariant shown procedure truth b
-  pub wished : fresh ≡ true → AreWishedNow shown b

@@ -21,10 +21,8 @@ same_setting one other = bytes_eq one.name other.name && bytes_eq one.value othe
 
 -- the keys are the same
 abbrev pub same_key : Key → Key → Bool
-same_key one other = (one.seed == other.seed)
-    && bytes_eq one.instance other.instance
-    && bytes_eq one.specifics other.specifics
-    && pointwise same_setting one.settings other.settings
+same_key one other = bytes_eq one.instance other.instance
+    && (bytes_eq one.specifics other.specifics && ((one.seed == other.seed) && pointwise same_setting one.settings other.settings))
 
 -- the cells are the same
 abbrev pub same_cell : Cell → Cell → Bool

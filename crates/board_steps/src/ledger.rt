@@ -7,7 +7,7 @@ ghost use Rattle.board_steps.specs.Ledgers.{take_event, unmarked, shunned_after,
 
 use crate::answers::Standing;
 use crate::events::Event;
-use crate::tickets::{Kind, LiveTicket, Ticket, same_cell};
+use crate::tickets::{Kind, LiveTicket, Ticket};
 use objective::{Memory, Micros};
 use param_space::Config;
 use predictor::Wish;
@@ -45,7 +45,7 @@ impl Model for Ledger {
 pub fn has_ticket(live: &[LiveTicket], cell: &Cell) -> bool
     ensures { result ≡ Tickets.has_ticket live.now cell.now }
 {
-    live.iter().any(|l| same_cell(cell, &l.ticket.cell))
+    live.iter().any(|l| *cell == l.ticket.cell)
 }
 
 /// Whether a cell is among these.
@@ -53,21 +53,21 @@ pub fn has_ticket(live: &[LiveTicket], cell: &Cell) -> bool
 pub fn has_cell(cells: &[Cell], cell: &Cell) -> bool
     ensures { result ≡ Tickets.has_cell cells.now cell.now }
 {
-    cells.iter().any(|other| same_cell(cell, other))
+    cells.iter().any(|other| cell == other)
 }
 
 /// Whether a cell is wished for.
 fn is_wished(wishes: &[Wish], cell: &Cell) -> bool
     ensures { result ≡ list_any (λ w. Tickets.same_cell cell.now w.cell) wishes.now }
 {
-    wishes.iter().any(|w| same_cell(cell, &w.cell))
+    wishes.iter().any(|w| *cell == w.cell)
 }
 
 /// Whether a cell is of this configuration at this place.
 fn is_cell(config: &Config, place: u32, cell: &Cell) -> bool
     ensures { result ≡ Tickets.same_cell (record { config = config.now; place = place }) cell.now }
 {
-    config.values() == cell.config.values() && place == cell.place
+    place == cell.place && config.values() == cell.config.values()
 }
 
 /// Whether the run of a live ticket isn't wanted where a cell is needed under a cutoff.

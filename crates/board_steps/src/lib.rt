@@ -16,5 +16,5 @@ pub use answers::{Advanced, Phase, Recorded, Standing, Taken};
 pub use events::Event;
 pub use ledger::{Ledger, has_cell, has_ticket};
 pub use problem::Problem;
-pub use tickets::{Kind, LiveTicket, Ticket, same_cell};
+pub use tickets::{Kind, LiveTicket, Ticket};
 pub use truth::Truth;

@@ -1,14 +1,10 @@
 -- The steps of a walk over the places of an ask.
-use Rattle.std.specs.Prelude.{ℕ, zero, suc, ◌+◌, ◌-◌, ◌<◌, ◌≡◌, false, List, Option, length, slice_index_or, refl}
-use Rattle.std.proofs.Common.{sym, ap, ◌∙◌, subst, inl, inr, arith}
-use Rattle.std.proofs.lemmas.Bool.{cases_lt}
-use Rattle.std.proofs.lemmas.List.{get_or_past}
+use Rattle.std.specs.Prelude.{ℕ, suc, ◌+◌, ◌-◌, ◌<◌, ◌≡◌, false, Option, refl}
+use Rattle.std.proofs.Common.{sym, ap, ◌∙◌, arith}
 use Rattle.objective.specs.Bounds.{Bounds}
 use Rattle.objective.specs.declared.Sum.{Sum}
 use Rattle.run_cache.specs.declared.known.Known.{Known}
-use Rattle.run_cache.specs.declared.known.Known.TheVariants.{Nothing, Exact}
-use Rattle.run_cache.specs.Knowledge.{IsInRange}
-use Rattle.run_cache.specs.Caches.{IsRow, known_at}
+use Rattle.run_cache.specs.declared.known.Known.TheVariants.{Exact}
 use Rattle.capping.specs.declared.verdicts.Verdict.{Verdict}
 use Rattle.capping.specs.Verdicts.{is_past, verdict_at, verdict_from}
 
@@ -34,12 +30,3 @@ module _ (limits : Bounds) (known : ℕ → Known) (bound : Option ℕ) where
       ap (λ d. verdict_from limits known bound (n - d) (suc d) sum) next
       ∙ ap (verdict_from limits known bound (n - suc done) (suc (suc done))) added
       ∙ sym (step n done spent (Exact cost) inside e h) ∙ same
-
--- what a row knows at a place lies in its range
-pub in_range : (limits : Bounds) (row : List Known) → IsRow limits row → (place : ℕ) → IsInRange limits (known_at row place)
-in_range limits row all zero = tt
-in_range limits row all (suc before) =
-    elim (cases_lt before (length row)) as (λ _. IsInRange limits (slice_index_or row before Nothing)) [
-      | inl inside ↦ all before Nothing inside
-      | inr past ↦ subst (IsInRange limits) (sym (get_or_past row before Nothing past)) tt
-    ]

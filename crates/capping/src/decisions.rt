@@ -5,7 +5,7 @@ ghost use Rattle.objective.specs.Limits.{max_cutoff, max_runs};
 ghost use Rattle.uncapped.specs.Totals.{total_cost, quiet};
 ghost use Rattle.ils_face.specs.Replies.{Fits};
 ghost use Rattle.ils_face.specs.Traces.{question_of, IsReplyBy};
-ghost use Rattle.run_cache.specs.Caches.{known_at as known_at_place, known_in, AgreesWith, IsRow};
+ghost use Rattle.run_cache.specs.Caches.{known_at, known_in, AgreesWith, IsRow};
 ghost use Rattle.capping.specs.Verdicts as verdicts;
 ghost use Rattle.capping.specs.Verdicts.{verdict_from, verdict_of};
 ghost use Rattle.capping.specs.Decisions.{place_count, bound_of, question, IfReply, IfNeed, IfAborted, OnEnded, IsAtMost, IsNeeded, IsDueAt, GoesOn, IsKnownAbort, IsFirstAbort, AreRanged};
@@ -51,7 +51,7 @@ fn need(limits: &Limits, bound: Option<Sum>, place: u32, spent: Sum) -> Verdict
 fn verdict_by(limits: &Limits, row: &[Known], n: u32, bound: Option<Sum>) -> Verdict
     requires ranged { IsRow limits.now row.now }
     requires within { n ≤ max_runs }
-    ensures { result ≡ verdict_from limits.now (known_at_place row.now) (bound_of bound) n 1 0 }
+    ensures { result ≡ verdict_from limits.now (known_at row.now) (bound_of bound) n 1 0 }
 {
     let _ = &limits.cutoff; // its type keeps it in range
     let mut spent = Sum(0);

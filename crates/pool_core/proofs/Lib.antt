@@ -2,7 +2,7 @@ mod TicketEnds
 mod Standings
 mod Halts
 mod PresentPhases
-mod FreshWishes
+mod DecidedAsks
 mod NoWishes
 mod Offers
 mod GivenBoards

@@ -11,6 +11,7 @@ use Rattle.run_cache.specs.Caches.{known_in}
 use Rattle.capping.specs.declared.verdicts.Verdict.{Verdict}
 use Rattle.capping.specs.declared.verdicts.Verdict.TheVariants as verdict
 use Rattle.capping.specs.Verdicts.{verdict_of}
+use Rattle.predictor.specs.declared.wish.Wish.{Wish}
 use Rattle.board_steps.specs.declared.answers.Phase.{Phase}
 use Rattle.board_steps.specs.declared.answers.Phase.TheVariants as phase
 use Rattle.board_steps.specs.declared.tickets.LiveTicket.{LiveTicket}
@@ -83,19 +84,21 @@ module _ (shown : Rules → List Reply → View) where
       by_stop false opened = by_abort b.aborted opened
 
   -- at its end a search needs no run
-  pub no-end : (b : BoardState) (rules : Rules) (place : ℕ) (cutoff : Micros) → rules ≡ b.problem.rules → phase_of shown (plain b) ≡ phase.Open (verdict.Need place cutoff)
-      → (shown rules b.replies).ask ≡ End → ⊥
+  pub no-end : (now b : BoardState) (rules : Rules) (place : ℕ) (cutoff : Micros) → b ≡ now → rules ≡ b.problem.rules
+      → phase_of shown (plain now) ≡ phase.Open (verdict.Need place cutoff) → (shown rules b.replies).ask ≡ End → ⊥
   unfolding verdict_on plain
-  no-end b rules place cutoff same stands at_end =
-      let now : (shown b.problem.rules b.replies).ask ≡ End = ap (λ r. (shown r b.replies).ask) (sym same) ∙ at_end in
-      let e : verdict.Ended ≡ verdict.Need place cutoff = sym (ap (verdict_of b.problem.rules.limits (known_in b.cache)) now) ∙ verdict-open b (verdict.Need place cutoff) stands in
+  no-end now b rules place cutoff same ruled stands at_end =
+      let here : (shown b.problem.rules b.replies).ask ≡ End = ap (λ r. (shown r b.replies).ask) (sym ruled) ∙ at_end in
+      let stands_here = ap (λ x. phase_of shown (plain x)) same ∙ stands in
+      let e : verdict.Ended ≡ verdict.Need place cutoff = sym (ap (verdict_of b.problem.rules.limits (known_in b.cache)) here) ∙ verdict-open b (verdict.Need place cutoff) stands_here in
       absurd (let f = e in cc)
 
   -- what isn't wanted where a run of the present ask is needed
-  pub unwanted-beside : (b : BoardState) (rules : Rules) (config : List ℕ) (place : ℕ) (cutoff : Micros) → rules ≡ b.problem.rules
-      → phase_of shown (plain b) ≡ phase.Open (verdict.Need place cutoff) → config_of (shown rules b.replies).ask ≡ config
-      → is_unwanted_beside b.wishes (record { config = config; place = place }) cutoff.0 ≡ is_unwanted shown (plain b)
+  pub unwanted-beside : (now b : BoardState) (rules : Rules) (wishes : List Wish) (config : List ℕ) (place : ℕ) (cutoff : Micros) → b ≡ now → rules ≡ b.problem.rules
+      → phase_of shown (plain now) ≡ phase.Open (verdict.Need place cutoff) → wishes ≡ b.wishes → config ≡ config_of (shown rules b.replies).ask
+      → is_unwanted_beside wishes (record { config = config; place = place }) cutoff.0 ≡ is_unwanted shown (plain b)
   unfolding plain is_unwanted asked_cell
-  unwanted-beside b rules config place cutoff same stands asked =
-      (λ i. is_unwanted_beside b.wishes (record { config = (sym asked ∙ ap (λ r. config_of (shown r b.replies).ask) same) i; place = place }) cutoff.0)
-      ∙ ap (is_unwanted_by shown (plain b)) (sym stands)
+  unwanted-beside now b rules wishes config place cutoff same ruled stands wished asked =
+      let stands_here = ap (λ x. phase_of shown (plain x)) same ∙ stands in
+      (λ i. is_unwanted_beside (wished i) (record { config = (asked ∙ ap (λ r. config_of (shown r b.replies).ask) ruled) i; place = place }) cutoff.0)
+      ∙ ap (is_unwanted_by shown (plain b)) (sym stands_here)

@@ -8,7 +8,6 @@ use Rattle.ils_face.specs.Views.{View}
 use Rattle.run_cache.specs.declared.cell.Cell.{Cell}
 use Rattle.run_cache.specs.Caches.{known_in}
 use Rattle.capping.specs.declared.verdicts.Verdict.{Verdict}
-use Rattle.capping.specs.Verdicts.{verdict_of}
 use Rattle.predictor.specs.declared.wish.Wish.{Wish}
 use Rattle.predictor.specs.Wishes.{wishes_of}
 use Rattle.board_steps.specs.declared.answers.Phase.TheVariants.{Stopped, Aborted, Open}
@@ -18,6 +17,7 @@ use Rattle.board_steps.specs.declared.events.Event.TheVariants.{Advance}
 use Rattle.board_steps.specs.declared.answers.Phase.{Phase}
 use Rattle.board_steps.specs.declared.answers.Taken.{Taken}
 use Rattle.board_steps.specs.Steps.{same_wish, with_wishes, advanced_to, advanced_on, advanced_by, after_advance, taken_by, taken_on, with_taken, after_take}
+use Rattle.pool_core.specs.DecidedAsks.{IsVerdict}
 use Rattle.board_steps.specs.Phases.{ask_on, config_of, asked_cell, verdict_on, phase_by, phase_of, wishes_on, IfReplies, IfNeeds}
 
 module _ (shown : Rules → List Reply → View) where
@@ -42,31 +42,29 @@ module _ (shown : Rules → List Reply → View) where
   open-by b None none = refl
 
   -- it goes by what is known
-  pub phase-open : (b : BoardState) (rules : Rules) (v : Verdict) → rules ≡ b.problem.rules → b.cache.limits ≡ b.problem.rules.limits
-      → b.stopped ≡ false → is_some b.aborted ≡ false → v ≡ verdict_of b.cache.limits (known_in b.cache) (shown rules b.replies).ask
-      → Open v ≡ phase_of shown (plain b)
+  pub phase-open : (b : BoardState) (v : Verdict) → b.stopped ≡ false → is_some b.aborted ≡ false
+      → IsVerdict shown b.problem.rules b.replies (known_in b.cache) v → Open v ≡ phase_of shown (plain b)
   unfolding phase_of plain verdict_on
-  phase-open b rules v same limits running none decided =
-      let verdict : v ≡ verdict_on shown (plain b) = decided ∙ (λ i. verdict_of (limits i) (known_in b.cache) (shown (same i) b.replies).ask) in
-      ap Open verdict ∙ open-by (plain b) b.aborted none ∙ sym (ap (λ s. if s then Stopped else phase_by shown (plain b) b.aborted) running)
+  phase-open b v running none is = ap Open is.value ∙ open-by (plain b) b.aborted none ∙ sym (ap (λ s. if s then Stopped else phase_by shown (plain b) b.aborted) running)
 
-  -- a reply to the present ask
-  pub fits-now : (b : BoardState) (rules : Rules) (r : Reply) → rules ≡ b.problem.rules → Fits (ask_on shown (plain b)) r → Fits (shown rules b.replies).ask r
+  -- what fits the present ask fits the ask by the rules of the search
+  pub fits-now : (now b : BoardState) (rules : Rules) (r : Reply) → b ≡ now → rules ≡ b.problem.rules → Fits (ask_on shown (plain now)) r → Fits (shown rules b.replies).ask r
   unfolding plain
-  fits-now b rules r same fits = let P : Rules → Type 0 = λ x. Fits (shown x b.replies).ask r in subst P (sym same) fits
+  fits-now now b rules r same ruled fits =
+      let N : BoardState → Type 0 = λ x. Fits (ask_on shown (plain x)) r in
+      let P : Rules → Type 0 = λ x. Fits (shown x b.replies).ask r in
+      subst P (sym ruled) (subst N (sym same) fits)
 
-  -- what fits the ask by these rules fits the present ask
-  pub replies-fit : (b : BoardState) (rules : Rules) (v : Verdict) → rules ≡ b.problem.rules → IfReplies v (Fits (shown rules b.replies).ask) → IfReplies v (Fits (ask_on shown (plain b)))
+  -- the reply of a verdict fits the present ask
+  pub replies-fit : (b : BoardState) (v : Verdict) → IsVerdict shown b.problem.rules b.replies (known_in b.cache) v → IfReplies v (Fits (ask_on shown (plain b)))
   unfolding plain
-  replies-fit b rules v same fits = let P : Rules → Type 0 = λ x. IfReplies v (Fits (shown x b.replies).ask) in subst P same fits
+  replies-fit b v is = is.fits
 
-  -- what may be run by these rules may be run
-  pub needs-runnable : (b : BoardState) (rules : Rules) (v : Verdict) → rules ≡ b.problem.rules
-      → IfNeeds v (λ place cutoff. IsRunnable rules (record { config = config_of (shown rules b.replies).ask; place = place }) cutoff)
+  -- the run that a verdict needs may be run
+  pub needs-runnable : (b : BoardState) (v : Verdict) → IsVerdict shown b.problem.rules b.replies (known_in b.cache) v
       → IfNeeds v (λ place cutoff. IsRunnable b.problem.rules (asked_cell shown (plain b) place) cutoff)
   unfolding plain asked_cell
-  needs-runnable b rules v same runnable =
-      let P : Rules → Type 0 = λ x. IfNeeds v (λ place cutoff. IsRunnable x (record { config = config_of (shown x b.replies).ask; place = place }) cutoff) in subst P same runnable
+  needs-runnable b v is = is.runnable
 
   -- the cell of the present ask at a place
   pub asked-now : (b : BoardState) (rules : Rules) (cell : Cell) (place : ℕ) → rules ≡ b.problem.rules

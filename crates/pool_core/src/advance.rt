@@ -2,11 +2,13 @@
 ghost use Rattle.std.specs.Prelude.{◌≡◌, ◌-◌, IfOk, OnOk, OnErr};
 ghost use Rattle.ils_face.specs.Replies.{Fits};
 ghost use Rattle.board_steps.specs.Boards.{plain};
+ghost use Rattle.board_steps.specs.Numbering.{IsRunnable};
+ghost use Rattle.board_steps.specs.Phases;
 ghost use Rattle.board_steps.specs.Phases.{ask_on, phase_of};
 ghost use Rattle.board_steps.specs.Steps.{advanced_on, after_advance, with_reply, with_wishes, with_abort};
 
 use crate::board::Board;
-use crate::present_asks::{asked_cell, same_wishes, wishes_after, wishes_now};
+use crate::present_asks::{asked_cell, same_wishes, verdict_by, wishes_after, wishes_now};
 use board_steps::{Advanced, Phase, Problem};
 use capping::Verdict;
 use ils_face::{Reply, Search};
@@ -52,19 +54,20 @@ impl<P: Search, S: Spawner> Board<P, S> {
         self.ledger.make_room()?;
         self.search.answer(reply)?;
         self.wishes = wishes;
-        self.fresh = true;
+        self.decided = Some(verdict_by(&self.search, &self.cache));
         self.ledger.advance();
         Ok(Advanced::Moved)
     }
 
-    /// Sees to the wishes where a run is needed: those that are fresh are kept.
+    /// Sees to the wishes where a run is needed: those of an ask that is decided are kept.
     fn wish(&mut self, place: u32, cutoff: Micros) -> Result<Advanced, Memory>
-        requires { phase_of P.shown (plain self.old) ≡ Phase.Open (Verdict.Need place cutoff) }
+        requires stands { phase_of P.shown (plain self.old) ≡ Phase.Open (Verdict.Need place cutoff) }
+        requires runnable { IsRunnable self.old.problem.rules (Phases.asked_cell P.shown (plain self.old) place) cutoff.0 }
         ensures answer { IfOk result (λ a. a ≡ Advanced.Waits) }
         ensures board { OnOk result (plain self.new ≡ with_wishes P.shown (plain self.old)) }
         ensures err { OnErr result (self.new ≡ self.old) }
     {
-        if self.fresh {
+        if self.decided.is_some() {
             return Ok(Advanced::Waits);
         }
         self.wish_anew(place, cutoff)
@@ -72,7 +75,8 @@ impl<P: Search, S: Spawner> Board<P, S> {
 
     /// Makes the wishes anew where a run is needed.
     fn wish_anew(&mut self, place: u32, cutoff: Micros) -> Result<Advanced, Memory>
-        requires { phase_of P.shown (plain self.old) ≡ Phase.Open (Verdict.Need place cutoff) }
+        requires stands { phase_of P.shown (plain self.old) ≡ Phase.Open (Verdict.Need place cutoff) }
+        requires runnable { IsRunnable self.old.problem.rules (Phases.asked_cell P.shown (plain self.old) place) cutoff.0 }
         ensures answer { IfOk result (λ a. a ≡ Advanced.Waits) }
         ensures board { OnOk result (plain self.new ≡ with_wishes P.shown (plain self.old)) }
         ensures err { OnErr result (self.new ≡ self.old) }
@@ -81,12 +85,12 @@ impl<P: Search, S: Spawner> Board<P, S> {
         let others = others(&self.problem);
         let wishes = wishes_now(alloc, &self.search, &self.cache, others)?;
         if same_wishes(&self.wishes, &wishes) {
-            self.fresh = true;
+            self.decided = Some(Verdict::Need { place, cutoff });
             return Ok(Advanced::Waits);
         }
         self.ledger.make_room()?;
         self.wishes = wishes;
-        self.fresh = true;
+        self.decided = Some(Verdict::Need { place, cutoff });
         self.ledger.advance();
         Ok(Advanced::Waits)
     }
@@ -102,7 +106,7 @@ impl<P: Search, S: Spawner> Board<P, S> {
         self.ledger.make_room()?;
         self.aborted = Some(cell);
         self.wishes.clear();
-        self.fresh = false;
+        self.decided = None;
         self.ledger.advance();
         Ok(Advanced::Aborted)
     }

@@ -6,16 +6,19 @@ ghost use Rattle.board_steps.specs.Boards.{opening, plain};
 ghost use Rattle.board_steps.specs.BoardInvariant.{BoardInvariant};
 ghost use Rattle.board_steps.specs.RepliedAsks.{quiet_by};
 ghost use Rattle.board_steps.specs.ShownEntries.{true_by};
-ghost use Rattle.board_steps.specs.Phases.{phase_of, ask_on, asked_cell as cell_on, IfOpen, IfReplies, IfNeeds};
+ghost use Rattle.board_steps.specs.Phases;
+ghost use Rattle.board_steps.specs.Phases.{phase_of, ask_on, IfOpen, IfReplies, IfNeeds};
 ghost use Rattle.board_steps.specs.Numbering.{IsRunnable};
 ghost use Rattle.ils_face.specs.Replies.{Fits};
 ghost use Rattle.ils_face.specs.Rules.{AreRules};
 ghost use Rattle.board_steps.specs.Ledgers.{unmarked};
 ghost use Rattle.board_steps.specs.Tickets.{found_in, marked, standing_of};
+ghost use Rattle.pool_core.specs.DecidedAsks.{IsVerdict};
 ghost use Rattle.pool_core.specs.Endings.{IsEnding, ShowsEnding};
 
 use crate::present_asks::verdict_by;
 use board_steps::{Event, Ledger, Phase, Problem, Standing, Ticket};
+use capping::Verdict;
 use ils_face::{Ask, Search};
 use objective::Memory;
 use outside::Spawner;
@@ -44,8 +47,8 @@ pub struct Board<P: Search, S: Spawner> {
     pub(crate) search: P,
     pub(crate) cache: Cache,
     pub(crate) wishes: Vec<Wish>,
-    /// Whether making the wishes anew is known to change none.
-    pub(crate) fresh: bool,
+    /// The verdict on the present ask, once it and the wishes were made by all that is known.
+    pub(crate) decided: Option<Verdict>,
     pub(crate) aborted: Option<Cell>,
     pub(crate) ledger: Ledger,
     pub(crate) of: PhantomData<S>,
@@ -53,13 +56,13 @@ pub struct Board<P: Search, S: Spawner> {
 
 impl<P: Search, S: Spawner> Model for Board<P, S> {
     ghost use Rattle.board_steps.specs.Boards.{BoardState, state_of};
-    ghost use Rattle.board_steps.specs.BoardInvariant.{IsBoard};
+    ghost use Rattle.pool_core.specs.DecidedAsks.{IsBoard};
 
     ghost Value = { BoardState };
 
     ghost view = { λ b. state_of b.problem (P.replies_of b.search) b.cache b.wishes.items b.aborted b.ledger };
 
-    ghost invariant = { λ b. IsBoard P.shown P.plain S.truth (P.rules_of b.search) b.fresh (state_of b.problem (P.replies_of b.search) b.cache b.wishes.items b.aborted b.ledger) };
+    ghost invariant = { λ b. IsBoard P.shown P.plain S.truth (P.rules_of b.search) b.decided (state_of b.problem (P.replies_of b.search) b.cache b.wishes.items b.aborted b.ledger) };
 }
 
 /// A search by the rules of a problem.
@@ -92,7 +95,7 @@ impl<P: Search, S: Spawner> Board<P, S> {
             search,
             cache,
             wishes: Vec::new(alloc),
-            fresh: false,
+            decided: None,
             aborted: None,
             ledger,
             of: PhantomData,
@@ -182,7 +185,7 @@ impl<P: Search, S: Spawner> Board<P, S> {
     pub(crate) fn phase(&self) -> Phase
         ensures value { result ≡ phase_of P.shown (plain self.now) }
         ensures fits { IfOpen result (λ v. IfReplies v (Fits (ask_on P.shown (plain self.now)))) }
-        ensures runnable { IfOpen result (λ v. IfNeeds v (λ place cutoff. IsRunnable self.now.problem.rules (cell_on P.shown (plain self.now) place) cutoff)) }
+        ensures runnable { IfOpen result (λ v. IfNeeds v (λ place cutoff. IsRunnable self.now.problem.rules (Phases.asked_cell P.shown (plain self.now) place) cutoff)) }
     {
         if self.ledger.stopped() {
             return Phase::Stopped;
@@ -190,6 +193,16 @@ impl<P: Search, S: Spawner> Board<P, S> {
         if self.aborted.is_some() {
             return Phase::Aborted;
         }
-        Phase::Open(verdict_by(&self.search, &self.cache))
+        Phase::Open(self.verdict())
+    }
+
+    /// What is known makes of the present ask, which is decided once after each thing that was learnt.
+    fn verdict(&self) -> Verdict
+        ensures { IsVerdict P.shown self.now.problem.rules self.now.replies (known_in self.now.cache) result }
+    {
+        match self.decided {
+            Some(verdict) => verdict,
+            None => verdict_by(&self.search, &self.cache),
+        }
     }
 }

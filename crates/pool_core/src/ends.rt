@@ -5,7 +5,8 @@ ghost use Rattle.objective.specs.Costs.{IsWithin, seen};
 ghost use Rattle.objective.specs.declared.Outcome.{Outcome};
 ghost use Rattle.wrapper_lines.specs.declared.runs.Key.{Key};
 ghost use Rattle.board_steps.specs.Boards.{plain};
-ghost use Rattle.board_steps.specs.Steps.{after_killed, after_lost, after_record, recorded_as as recorded_of, recorded_on};
+ghost use Rattle.board_steps.specs.Steps;
+ghost use Rattle.board_steps.specs.Steps.{after_killed, after_lost, after_record, recorded_on};
 ghost use Rattle.board_steps.specs.Tickets.{found_in, standing_of};
 ghost use Rattle.pool_core.specs.Answers.{is_known, is_marked};
 
@@ -18,7 +19,7 @@ use run_cache::Learnt;
 
 /// What a record comes to by what is learnt.
 fn recorded_as(learnt: Learnt) -> Recorded
-    ensures { result ≡ recorded_of learnt }
+    ensures { result ≡ Steps.recorded_as learnt }
 {
     match learnt {
         Learnt::Fresh => Recorded::Fresh,
@@ -46,7 +47,7 @@ impl<P: Search, S: Spawner> Board<P, S> {
                 let learnt = self
                     .cache
                     .learn(&l.ticket.cell, l.ticket.run.cutoff, answer);
-                self.fresh = false;
+                self.decided = None;
                 self.ledger.end(number, Event::Record { number, answer });
                 recorded_as(learnt)
             }

@@ -4,13 +4,14 @@ ghost use Rattle.std.specs.List.{find, position_or_len};
 ghost use Rattle.objective.specs.Limits.{max_runs};
 ghost use Rattle.board_steps.specs.Boards.{plain};
 ghost use Rattle.board_steps.specs.Numbering.{IsRunnable};
-ghost use Rattle.board_steps.specs.Phases.{asked_cell as cell_on, phase_of};
+ghost use Rattle.board_steps.specs.Phases;
+ghost use Rattle.board_steps.specs.Phases.{phase_of};
 ghost use Rattle.board_steps.specs.Steps.{after_take, is_free, taken_on, ticket_for};
 ghost use Rattle.board_steps.specs.Tickets;
 
 use crate::board::Board;
 use crate::present_asks::asked_cell;
-use board_steps::{Kind, Phase, Taken, Ticket, has_cell, has_ticket, same_cell};
+use board_steps::{Kind, Phase, Taken, Ticket, has_cell, has_ticket};
 use capping::Verdict;
 use ils_face::Search;
 use objective::{Memory, Micros};
@@ -40,7 +41,7 @@ impl<P: Search, S: Spawner> Board<P, S> {
     /// Gives a ticket where a run is needed.
     fn take_needed(&mut self, place: u32, cutoff: Micros) -> Result<Taken, Memory>
         requires stands { phase_of P.shown (plain self.old) ≡ Phase.Open (Verdict.Need place cutoff) }
-        requires runnable { IsRunnable self.old.problem.rules (cell_on P.shown (plain self.old) place) cutoff.0 }
+        requires runnable { IsRunnable self.old.problem.rules (Phases.asked_cell P.shown (plain self.old) place) cutoff.0 }
         ensures answer { IfOk result (λ t. t ≡ taken_on P.shown (plain self.old)) }
         ensures board { OnOk result (plain self.new ≡ after_take P.shown (plain self.old)) }
         ensures err { OnErr result (plain self.new ≡ plain self.old) }
@@ -57,7 +58,7 @@ impl<P: Search, S: Spawner> Board<P, S> {
 
     /// The cell of the present ask at a place.
     fn needed_cell(&self, place: u32) -> Result<Cell, Memory>
-        ensures { IfOk result (λ c. c ≡ cell_on P.shown (plain self.now) place) }
+        ensures { IfOk result (λ c. c ≡ Phases.asked_cell P.shown (plain self.now) place) }
     {
         asked_cell(*self.wishes.allocator(), &self.search, place)
     }
@@ -76,7 +77,7 @@ impl<P: Search, S: Spawner> Board<P, S> {
     {
         !has_ticket(self.ledger.live(), &wish.cell)
             && !has_cell(self.ledger.shunned(), &wish.cell)
-            && !same_cell(needed, &wish.cell)
+            && *needed != wish.cell
             && !self.cache.known(&wish.cell).is_settled(wish.cutoff)
     }
 

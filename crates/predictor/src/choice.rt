@@ -1,7 +1,7 @@
 //! Wishes in the making.
 ghost use Rattle.std.specs.Prelude.{◌≡◌, [], IfOk, OnOk, if◌then◌else◌};
 ghost use Rattle.run_cache.specs.Knowledge;
-ghost use Rattle.run_cache.specs.Caches.{known_in, is_at as is_cell_at};
+ghost use Rattle.run_cache.specs.Caches.{known_in};
 ghost use Rattle.predictor.specs.Choices as choices;
 ghost use Rattle.predictor.specs.Choices.{run_of, with_wish, with_runs};
 ghost use Rattle.predictor.specs.Wishes.{runs_after};
@@ -12,13 +12,6 @@ use param_space::Config;
 use run_cache::{Cache, Cell, Known, known_next};
 use std::alloc::Global;
 use std::marker::Model;
-
-/// Whether a cell is the configuration at the place.
-fn is_at(cell: &Cell, config: &Config, place: u32) -> bool
-    ensures { result ≡ is_cell_at cell.now config.now place }
-{
-    cell.place == place && config.values() == cell.config.values()
-}
 
 /// The wishes so far, at most so many, beside a cell that is needed.
 #[derive(Drop)]
@@ -73,7 +66,7 @@ impl Choice {
         ensures { result ≡ choices.has_wish self.now.wishes config.now place }
     {
         for wish in &self.wishes {
-            if is_at(&wish.cell, config, place) {
+            if wish.cell.is_at(config, place) {
                 return true;
             }
         }
@@ -84,7 +77,7 @@ impl Choice {
     pub(crate) fn add(&mut self, config: &Config, place: u32, cutoff: Micros) -> Result<(), Memory>
         ensures { OnOk result (self.new ≡ with_wish self.old (run_of config.now place cutoff.0)) }
     {
-        if !self.has_room() || is_at(&self.needed, config, place) || self.has_wish(config, place) {
+        if !self.has_room() || self.needed.is_at(config, place) || self.has_wish(config, place) {
             return Ok(());
         }
         let cell = Cell::at(config, place)?;

@@ -1,7 +1,8 @@
 -- What is known lies in its range, and a run settles its cell at its cutoff.
-use Rattle.std.proofs.Common.{ℕ, ◌≡◌, ◌≤◌, max, Bool, true, false, refl, inl, inr, arith}
-use Rattle.std.specs.Prelude.{nat_lt, if◌then◌else◌}
-use Rattle.std.proofs.lemmas.Bool.{le-leb, leb-true}
+use Rattle.std.proofs.Common.{ℕ, zero, suc, ◌≡◌, ◌≤◌, max, Bool, true, false, List, length, refl, sym, subst, inl, inr, arith}
+use Rattle.std.specs.Prelude.{nat_lt, slice_index_or, if◌then◌else◌}
+use Rattle.std.proofs.lemmas.Bool.{cases_lt, le-leb, leb-true}
+use Rattle.std.proofs.lemmas.List.{get_or_past}
 use Rattle.objective.specs.Bounds.{Bounds}
 use Rattle.objective.specs.Costs.{IsWithin, penalty}
 use Rattle.objective.specs.declared.Answer.{Answer}
@@ -10,10 +11,19 @@ use Rattle.run_cache.specs.declared.known.Known.{Known}
 use Rattle.run_cache.specs.declared.known.Known.TheVariants.{Nothing, Over, Exact, Abort}
 use Rattle.run_cache.specs.declared.learning.Evidence.{Evidence}
 use Rattle.run_cache.specs.declared.learning.Evidence.TheVariants as evidence
-use Rattle.run_cache.specs.Caches.{IsCutoff}
+use Rattle.run_cache.specs.Caches.{IsCutoff, IsRow, known_at}
 use Rattle.run_cache.specs.Knowledge.{IsCost, IsInRange, IsShortened, is_settled}
 use Rattle.run_cache.specs.Learning.{evidence_of, lesson_from, lesson}
 use Rattle.run_cache.proofs.Agreement.{cutoff_at_most_penalty}
+
+-- what a row knows at a place lies in its range
+pub known_ranged : (limits : Bounds) (row : List Known) → IsRow limits row → (place : ℕ) → IsInRange limits (known_at row place)
+known_ranged limits row all zero = tt
+known_ranged limits row all (suc before) =
+    elim (cases_lt before (length row)) as (λ _. IsInRange limits (slice_index_or row before Nothing)) [
+      | inl inside ↦ all before Nothing inside
+      | inr past ↦ subst (IsInRange limits) (sym (get_or_past row before Nothing past)) tt
+    ]
 
 -- no cost is greater than the penalty
 pub cost_at_most_penalty : (limits : Bounds) (x : ℕ) → IsCost limits x → x ≤ penalty limits

@@ -3,7 +3,7 @@ use Rattle.std.specs.Prelude.{ℕ, ◌≡◌, ◌<◌, ◌≤◌, List, [], ◌�
 use Rattle.objective.specs.Bounds.{Bounds}
 use Rattle.objective.specs.Costs.{Table, penalty}
 use Rattle.objective.specs.declared.Answer.{Answer}
-use Rattle.objective.specs.declared.Answer.TheVariants.{Timeout, Abort as Aborts}
+use Rattle.objective.specs.declared.Answer.TheVariants as answer
 use Rattle.uncapped.specs.Procedure.{Question}
 use Rattle.uncapped.specs.DueCutoffs.{cap_at}
 use Rattle.run_cache.specs.declared.cell.Cell.{Cell}
@@ -22,7 +22,7 @@ pub record CellRun : Type 0 where
 
 -- the first run shows a timeout, and the second has more time
 pub record IsOutrun (earlier later : CellRun) : Type 0 where
-  pub timeout : earlier.answer ≡ Timeout
+  pub timeout : earlier.answer ≡ answer.Timeout
   pub more : earlier.cutoff < later.cutoff
 
 -- of any two runs of one cell the later has the greater cutoff, and the earlier shows a timeout
@@ -77,12 +77,12 @@ pub record IsRunOf (runs : List CellRun) (cell : Cell) (run : CellRun) : Type 0 
 pub record HasTimeout (runs : List CellRun) (cell : Cell) (cutoff : ℕ) : Type 0 where
   pub run : CellRun
   pub of_cell : IsRunOf runs cell run
-  pub timeout : run.answer ≡ Timeout
+  pub timeout : run.answer ≡ answer.Timeout
   pub with_cutoff : run.cutoff ≡ cutoff
 
 -- a run shows a timeout under at most this cutoff
 pub record IsTimeout (cutoff : ℕ) (run : CellRun) : Type 0 where
-  pub timeout : run.answer ≡ Timeout
+  pub timeout : run.answer ≡ answer.Timeout
   pub at_most : run.cutoff ≤ cutoff
 
 -- this is the greatest cutoff of the cell's runs, all of which show timeouts
@@ -100,7 +100,7 @@ pub record HasCost (limits : Bounds) (runs : List CellRun) (cell : Cell) (cost :
 pub record HasAbort (runs : List CellRun) (cell : Cell) : Type 0 where
   pub run : CellRun
   pub of_cell : IsRunOf runs cell run
-  pub abort : run.answer ≡ Aborts
+  pub abort : run.answer ≡ answer.Abort
 
 -- what is known of the cell comes of these runs
 abbrev pub IsBackedAt : Bounds → List CellRun → Cell → Known → Type 0

@@ -4,11 +4,11 @@ ghost use Rattle.objective.specs.declared.Outcome.{Outcome};
 ghost use Rattle.objective.specs.Costs.{Table, IsWithin, seen};
 ghost use Rattle.objective.specs.Limits.{max_runs};
 ghost use Rattle.run_cache.specs.Knowledge.{Agrees, IsInRange};
-ghost use Rattle.run_cache.specs.Learning.{learnt as learnt_by};
-ghost use Rattle.run_cache.specs.Caches.{IsCutoff, IsRow, AreRows, AgreesWith, GoesWith, row_of, rows_with, known_at, known_in, known_of, known_after, has_place_in, has_place_for, lesson_in, conflicts_after};
+ghost use Rattle.run_cache.specs.Learning;
+ghost use Rattle.run_cache.specs.Caches.{IsCutoff, IsRow, AreRows, AgreesWith, GoesWith, row_of, rows_with, known_in, known_of, known_after, has_place_in, has_place_for, lesson_in, conflicts_after};
 
 use crate::cell::Cell;
-use crate::known::{Known, Learnt};
+use crate::known::{Known, Learnt, known_next};
 use crate::learning::{learnt, lesson_of};
 use crate::row::Row;
 use indexmap::IndexMap;
@@ -87,15 +87,13 @@ impl Cache {
     }
 
     /// What is known of a configuration at a place.
+    #[tactic(auto, using(crate::proofs::Ranges::known_ranged))]
     pub fn known_at(&self, config: &Config, place: u32) -> Known
         ensures value { result ≡ known_in self.now config.now place }
         ensures in_range { IsInRange self.now.limits result }
     {
-        if place == 0 {
-            return Known::Nothing;
-        }
-        match self.row(config).get((place - 1) as usize) {
-            Some(known) => *known,
+        match place.checked_sub(1) {
+            Some(done) => known_next(self.row(config), done),
             None => Known::Nothing,
         }
     }
@@ -157,7 +155,7 @@ impl Cache {
         requires place { IsTrue (has_place_for self.old cell.now) }
         requires cutoff { IsCutoff self.old.limits cutoff.0 }
         requires within { IsWithin answer cutoff.0 }
-        ensures answer { result ≡ learnt_by (known_of self.old cell.now) (lesson_in self.old cell.now cutoff.0 answer) }
+        ensures answer { result ≡ Learning.learnt (known_of self.old cell.now) (lesson_in self.old cell.now cutoff.0 answer) }
         ensures known { known_in self.new ≡ known_after (known_in self.old) cell.now (lesson_in self.old cell.now cutoff.0 answer).known }
         ensures conflicts { self.new.conflicts ≡ conflicts_after self.old.conflicts (lesson_in self.old cell.now cutoff.0 answer).conflict }
         ensures limits { self.new.limits ≡ self.old.limits }

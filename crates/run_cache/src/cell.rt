@@ -1,5 +1,6 @@
 //! Cells.
 ghost use Rattle.std.specs.Prelude.{◌≡◌, IfOk};
+ghost use Rattle.run_cache.specs.Caches;
 
 use objective::Memory;
 use param_space::Config;
@@ -25,7 +26,7 @@ impl PartialEq for Cell {
     ghost laws = { Prim.search (comparing, rules) };
 
     fn eq(&self, other: &Cell) -> bool {
-        self.config.values() == other.config.values() && self.place == other.place
+        self.place == other.place && self.config.values() == other.config.values()
     }
 }
 
@@ -45,6 +46,13 @@ impl Cell {
             config: config.copy()?,
             place,
         })
+    }
+
+    /// Whether this is the configuration at the place.
+    pub fn is_at(&self, config: &Config, place: u32) -> bool
+        ensures { result ≡ Caches.is_at self.now config.now place }
+    {
+        self.place == place && self.config.values() == config.values()
     }
 
     /// The same cell.

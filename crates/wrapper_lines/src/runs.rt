@@ -22,7 +22,7 @@ pub struct Program {
 }
 
 /// A parameter's name with the value that it is given.
-#[derive(Drop)]
+#[derive(Drop, PartialEq, Eq)]
 pub struct Setting {
     /// The parameter's name.
     pub name: Text,
@@ -31,7 +31,7 @@ pub struct Setting {
 }
 
 /// What one run is of: an instance with its specifics, a seed and settings.
-#[derive(Drop)]
+#[derive(Drop, PartialEq, Eq)]
 pub struct Key {
     /// The instance's name.
     pub instance: Text,
@@ -44,7 +44,7 @@ pub struct Key {
 }
 
 /// A key under a cutoff in microseconds.
-#[derive(Drop)]
+#[derive(Drop, PartialEq, Eq)]
 pub struct Run {
     /// What is run.
     pub key: Key,

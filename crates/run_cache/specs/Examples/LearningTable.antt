@@ -1,7 +1,8 @@
 -- The table of what is learnt, line by line: a full cutoff of ten seconds, and a run without a solution costs a hundred.
 use Rattle.std.specs.Prelude.{ℕ, ◌≡◌, refl}
 use Rattle.objective.specs.declared.Answer.{Answer}
-use Rattle.objective.specs.declared.Answer.TheVariants.{Solved, Timeout, Crashed, Abort as Aborts}
+use Rattle.objective.specs.declared.Answer.TheVariants.{Solved, Timeout, Crashed}
+use Rattle.objective.specs.declared.Answer.TheVariants as answer
 use Rattle.uncapped.specs.Examples.Tables.{seconds, ten_seconds_tenfold}
 use Rattle.run_cache.specs.declared.known.Known.{Known}
 use Rattle.run_cache.specs.declared.known.Known.TheVariants.{Nothing, Over, Abort}
@@ -48,7 +49,7 @@ full_timeout_after_nothing = refl
 pub crash_after_nothing : after Nothing 7 Crashed ≡ line (cost 100) Fresh
 crash_after_nothing = refl
 
-pub abort_after_nothing : after Nothing 7 Aborts ≡ line Abort Fresh
+pub abort_after_nothing : after Nothing 7 answer.Abort ≡ line Abort Fresh
 abort_after_nothing = refl
 
 -- where a run of five seconds timed out
@@ -70,7 +71,7 @@ full_timeout_after_over_five = refl
 pub crash_after_over_five : after (over 5) 7 Crashed ≡ line (cost 100) Fresh
 crash_after_over_five = refl
 
-pub abort_after_over_five : after (over 5) 7 Aborts ≡ line Abort Fresh
+pub abort_after_over_five : after (over 5) 7 answer.Abort ≡ line Abort Fresh
 abort_after_over_five = refl
 
 -- where the cost is six seconds
@@ -92,7 +93,7 @@ full_timeout_after_cost_six = refl
 pub crash_after_cost_six : after (cost 6) 7 Crashed ≡ line (cost 6) Conflict
 crash_after_cost_six = refl
 
-pub abort_after_cost_six : after (cost 6) 7 Aborts ≡ line (cost 6) Conflict
+pub abort_after_cost_six : after (cost 6) 7 answer.Abort ≡ line (cost 6) Conflict
 abort_after_cost_six = refl
 
 -- where the cost is the penalty
@@ -121,5 +122,5 @@ full_timeout_after_abort = refl
 pub crash_after_abort : after Abort 7 Crashed ≡ line Abort Conflict
 crash_after_abort = refl
 
-pub abort_after_abort : after Abort 7 Aborts ≡ line Abort Same
+pub abort_after_abort : after Abort 7 answer.Abort ≡ line Abort Same
 abort_after_abort = refl

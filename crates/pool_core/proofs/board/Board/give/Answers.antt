@@ -1,7 +1,7 @@
 use Rattle.std.proofs.Common.{ap, sym, ◌∙◌, arith}
 use Rattle.board_steps.specs.Boards.{state_of}
 use Rattle.board_steps.proofs.KeptBoards.{step-places}
-use Rattle.pool_core.proofs.FreshWishes.{wished-places}
+use Rattle.pool_core.proofs.DecidedAsks.{decided-places}
 use Rattle.pool_core.proofs.GivenBoards.{ticket-given}
 use Rattle.pool_core.proofs.Offers.{always-err, ticket-parts}
 use Rattle.pool_core.proofs.board.Board.give.Goals as goal
@@ -30,7 +30,7 @@ invariant_of-self-in_err-give g c =
     let places = step-places g.P.Search.shown g.P.Search.plain g.S.Spawner.truth b c.reserve.new.self e.limits e.known e.conflicts e.places c.self.invariant.board in
     record {
       rules_same = c.self.invariant.rules_same;
-      wished = λ is. wished-places g.P.Search.shown b c.reserve.new.self e.known (c.self.invariant.wished is);
+      kept = decided-places g.P.Search.shown b c.reserve.new.self i.decided e.known c.self.invariant.kept;
       board = rw c.in_err-give.ensures.err places.kept;
     }
 
@@ -54,7 +54,7 @@ invariant_of-self-2 g c =
     c.requires.offered c.requires.running c.requires.alone c.requires.runnable places c.in_ok-reserve.ensures.place in
     record {
       rules_same = c.self.invariant.rules_same;
-      wished = λ is. wished-places g.P.Search.shown b c.reserve.new.self e.known (c.self.invariant.wished is);
+      kept = decided-places g.P.Search.shown b c.reserve.new.self i.decided e.known c.self.invariant.kept;
       board = rw c.in_ok-give.ensures.ok given.kept;
     }
 

@@ -14,7 +14,7 @@ invariant_of-self g c =
     let found = found-some i.ledger.live c.args.ticket.now c.in-Some.l.now c.in-Some.ensures in
     record {
       rules_same = c.self.invariant.rules_same;
-      wished = c.self.invariant.wished;
+      kept = c.self.invariant.kept;
       board = rw c.end.ensures (step-kill g.P.Search.shown g.P.Search.plain g.S.Spawner.truth b c.in-Some.l.now found c.self.invariant.board).kept;
     }
 

@@ -16,7 +16,7 @@ invariant_of-self g c =
     let lost = some-then _ _ l found c.lose.ensures in
     record {
       rules_same = c.self.invariant.rules_same;
-      wished = c.self.invariant.wished;
+      kept = c.self.invariant.kept;
       board = rw lost (step-loss g.P.Search.shown g.P.Search.plain g.S.Spawner.truth b l found c.self.invariant.board).kept;
     }
 

@@ -9,7 +9,7 @@ invariant_of-self g c =
     let b = state_of i.problem (g.P.Search.replies_of i.search) i.cache i.wishes.items i.aborted i.ledger in
     record {
       rules_same = c.self.invariant.rules_same;
-      wished = c.self.invariant.wished;
+      kept = c.self.invariant.kept;
       board = rw c.mark_all.ensures.marked (step-marks g.P.Search.shown g.P.Search.plain g.S.Spawner.truth b all_unwanted c.self.invariant.board).kept;
     }
 

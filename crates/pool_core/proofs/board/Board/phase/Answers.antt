@@ -1,4 +1,4 @@
-use Rattle.std.proofs.Common.{sym, ◌∙◌}
+use Rattle.std.proofs.Common.{is_some, ap, sym, ◌∙◌}
 use Rattle.board_steps.specs.Boards.{state_of}
 use Rattle.pool_core.proofs.PresentPhases.{phase-stopped, phase-aborted, phase-open, replies-fit, needs-runnable}
 use Rattle.pool_core.proofs.board.Board.phase.Goals as goal
@@ -17,19 +17,12 @@ returns-then-is_some-clause-value g c =
 
 pub returns-clause-value : goal.returns-clause-value
 returns-clause-value g c =
-    let i = c.self.inside in
-    let b = state_of i.problem (g.P.Search.replies_of i.search) i.cache i.wishes.items i.aborted i.ledger in
-    rw (← c.self.view_is) (phase-open g.P.Search.shown b (g.P.Search.rules_of i.search) c.verdict_by.result c.self.invariant.rules_same c.self.invariant.board.limits
-    (sym c.stopped.ensures ∙ c.if-stopped.false) (sym c.is_some.ensures ∙ c.if-is_some.false) c.verdict_by.ensures.value)
+    let running = sym (ap (λ s. s.stopped) c.self.view_is) ∙ sym c.stopped.ensures ∙ c.if-stopped.false in
+    let none = sym (ap (λ s. is_some s.aborted) c.self.view_is) ∙ sym c.is_some.ensures ∙ c.if-is_some.false in
+    phase-open g.P.Search.shown c.args.self.now c.verdict.result running none c.verdict.ensures
 
 pub returns-clause-fits : goal.returns-clause-fits
-returns-clause-fits g c =
-    let i = c.self.inside in
-    let b = state_of i.problem (g.P.Search.replies_of i.search) i.cache i.wishes.items i.aborted i.ledger in
-    rw (← c.self.view_is) (replies-fit g.P.Search.shown b (g.P.Search.rules_of i.search) c.verdict_by.result c.self.invariant.rules_same c.verdict_by.ensures.fits)
+returns-clause-fits g c = replies-fit g.P.Search.shown c.args.self.now c.verdict.result c.verdict.ensures
 
 pub returns-clause-runnable : goal.returns-clause-runnable
-returns-clause-runnable g c =
-    let i = c.self.inside in
-    let b = state_of i.problem (g.P.Search.replies_of i.search) i.cache i.wishes.items i.aborted i.ledger in
-    rw (← c.self.view_is) (needs-runnable g.P.Search.shown b (g.P.Search.rules_of i.search) c.verdict_by.result c.self.invariant.rules_same c.verdict_by.ensures.runnable)
+returns-clause-runnable g c = needs-runnable g.P.Search.shown c.args.self.now c.verdict.result c.verdict.ensures

@@ -1,4 +1,4 @@
-use Rattle.std.proofs.Common.{◌≡◌, true, false, ◌∙◌, sym, subst}
+use Rattle.std.proofs.Common.{◌∙◌, sym, subst}
 use Rattle.objective.specs.Costs.{IsWithin}
 use Rattle.board_steps.specs.Boards.{state_of}
 use Rattle.board_steps.proofs.KeptBoards.{step-answer}
@@ -34,7 +34,7 @@ invariant_of-self g c =
     let e = c.learn-learnt.ensures in
     record {
       rules_same = c.self.invariant.rules_same;
-      wished = λ is. absurd (let e : false ≡ true = is in cc);
+      kept = tt;
       board = rw c.end.ensures (step-answer g.P.Search.shown g.P.Search.plain g.S.Spawner.truth b c.learn-learnt.new.self c.args.answer l found within told e.limits e.known e.conflicts e.places c.self.invariant.board).kept;
     }
 

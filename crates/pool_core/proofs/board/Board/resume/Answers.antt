@@ -14,7 +14,7 @@ invariant_of-self-2 g c =
     let halted = subst IsHalted (sym c.self.view_is) (sym c.is_halted.ensures ∙ c.if-not-is_halted.false) in
     record {
       rules_same = c.self.invariant.rules_same;
-      wished = c.self.invariant.wished;
+      kept = c.self.invariant.kept;
       board = rw c.in_ok-resume.ensures.ok (step-resume g.P.Search.shown g.P.Search.plain g.S.Spawner.truth b halted c.self.invariant.board).kept;
     }
 

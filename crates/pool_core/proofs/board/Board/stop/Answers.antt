@@ -11,7 +11,7 @@ invariant_of-self g c =
     let running : i.ledger.stopped ≡ false = sym c.stopped.ensures ∙ c.if-not-stopped.true in
     record {
       rules_same = c.self.invariant.rules_same;
-      wished = c.self.invariant.wished;
+      kept = c.self.invariant.kept;
       board = rw c.stop.ensures (step-stop g.P.Search.shown g.P.Search.plain g.S.Spawner.truth b running c.self.invariant.board).kept;
     }
 

@@ -1,12 +1,11 @@
-use Rattle.std.proofs.Common.{◌≡◌, sym, ◌∙◌, subst}
+use Rattle.std.proofs.Common.{ap, sym, ◌∙◌}
 use Rattle.std.specs.Cmp.Lexicographic.{pointwise}
-use Rattle.board_steps.specs.Boards.{BoardState, plain, state_of}
+use Rattle.board_steps.specs.Boards.{plain, state_of}
 use Rattle.board_steps.specs.Phases.{phase_of}
 use Rattle.board_steps.specs.Steps.{same_wish}
-use Rattle.capping.specs.declared.verdicts.Verdict.TheVariants as verdict
-use Rattle.board_steps.specs.declared.answers.Phase.TheVariants as phase
 use Rattle.board_steps.proofs.KeptBoards.{step-wishes}
-use Rattle.pool_core.proofs.FreshWishes.{wished-made, wished-same-as}
+use Rattle.board_steps.proofs.SameItself.{same_wishes-itself}
+use Rattle.pool_core.proofs.DecidedAsks.{decided-need}
 use Rattle.pool_core.proofs.PresentPhases.{wished-same, wishes-runnable, wishes-stay}
 use Rattle.pool_core.proofs.board.Board.wish_anew.Goals as goal
 
@@ -31,7 +30,7 @@ invariant_of-self g c =
     record {
       rules_same = c.self.invariant.rules_same;
       board = c.self.invariant.board;
-      wished = λ is. wished-same-as g.P.Search.shown b items wished (sym compared ∙ c.if-same_wishes.true);
+      kept = decided-need g.P.Search.shown c.args.self.now b items b.wishes c.args.place c.args.cutoff c.self.view_is c.requires.stands c.requires.runnable wished (sym compared ∙ c.if-same_wishes.true);
     }
 
 pub invariant_of-self-2 : goal.invariant_of-self-2
@@ -42,13 +41,12 @@ invariant_of-self-2 g c =
     let items = c.in_ok-wishes.wishes.items in
     let wished = wished-same g.P.Search.shown b rules items c.others-others.result c.self.invariant.rules_same c.self.invariant.board.limits c.others-others.ensures c.in_ok-wishes.ensures.value in
     let compared = c.same_wishes.ensures ∙ (λ j. pointwise same_wish (c.deref.ensures.value j) (c.deref-2.ensures.value j)) in
-    let S : BoardState → Type 0 = λ x. phase_of g.P.Search.shown (plain x) ≡ phase.Open (verdict.Need c.args.place c.args.cutoff) in
-    let stands = subst S (sym c.self.view_is) c.requires in
+    let stands = ap (λ x. phase_of g.P.Search.shown (plain x)) c.self.view_is ∙ c.requires.stands in
     let runnable = wishes-runnable rules i.problem.rules items c.self.invariant.rules_same c.in_ok-wishes.ensures.runnable in
     let step = step-wishes g.P.Search.shown g.P.Search.plain g.S.Spawner.truth b c.args.place c.args.cutoff items stands wished (sym compared ∙ c.if-same_wishes.false) runnable c.self.invariant.board in
     record {
       rules_same = c.self.invariant.rules_same;
-      wished = λ is. wished-made g.P.Search.shown b items wished;
+      kept = decided-need g.P.Search.shown c.args.self.now b items items c.args.place c.args.cutoff c.self.view_is c.requires.stands c.requires.runnable wished (same_wishes-itself items);
       board = rw (c.advance.ensures, c.make_room.ensures.same) step.kept;
     }
 
@@ -60,8 +58,7 @@ returns-clause-board g c =
     let items = c.in_ok-wishes.wishes.items in
     let wished = wished-same g.P.Search.shown b rules items c.others-others.result c.self.invariant.rules_same c.self.invariant.board.limits c.others-others.ensures c.in_ok-wishes.ensures.value in
     let compared = c.same_wishes.ensures ∙ (λ j. pointwise same_wish (c.deref.ensures.value j) (c.deref-2.ensures.value j)) in
-    let S : BoardState → Type 0 = λ x. phase_of g.P.Search.shown (plain x) ≡ phase.Open (verdict.Need c.args.place c.args.cutoff) in
-    let stands = subst S (sym c.self.view_is) c.requires in
+    let stands = ap (λ x. phase_of g.P.Search.shown (plain x)) c.self.view_is ∙ c.requires.stands in
     let runnable = wishes-runnable rules i.problem.rules items c.self.invariant.rules_same c.in_ok-wishes.ensures.runnable in
     let step = step-wishes g.P.Search.shown g.P.Search.plain g.S.Spawner.truth b c.args.place c.args.cutoff items stands wished (sym compared ∙ c.if-same_wishes.false) runnable c.self.invariant.board in
     rw (c.advance.ensures, c.make_room.ensures.same, ← c.self.view_is) step.plain_is
