@@ -1,3 +1,2 @@
 mod AnswerLines
-mod EndedOutput
 pub mod TakenParts

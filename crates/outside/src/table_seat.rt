@@ -1,11 +1,12 @@
 //! A seat in memory whose runs do what a table says.
 ghost use Rattle.std.specs.Prelude.{◌≡◌, Some, IfOk};
 ghost use Rattle.outside.specs.Courses.{first_course};
-ghost use Rattle.outside.specs.Seats.{Reads, told_first};
+ghost use Rattle.outside.specs.Seats.{told_first};
 
 use crate::answer_lines::output_of;
 use crate::course::{Course, Script};
 use crate::faults::{Fail, Fault, Poll};
+use crate::memory_child::MemoryChild;
 use crate::spawner::Spawner;
 use crate::table::Table;
 use objective::Memory;
@@ -14,79 +15,27 @@ use std::alloc::Global;
 use std::marker::{Model, PhantomData};
 use wrapper_lines::{Run, copy_texts};
 
-/// Where the child of a seat stands.
-#[derive(Clone, Copy)]
-enum Place {
-    /// There is none.
-    Idle,
-    /// It runs.
-    Runs,
-    /// It has ended, and its output is held.
-    Ended,
-}
-
-/// A child that was started.
-#[derive(Drop)]
-struct Child {
-    run: Run,
-    /// The same run, for a look that fails.
-    spare: Option<Run>,
-    /// What it writes.
-    output: Text,
-}
-
 /// A seat in memory whose runs do what a table says.
 #[derive(Drop)]
 pub struct TableSeat<T: Table> {
     of: PhantomData<T>,
     alloc: Global,
     course: Course,
-    place: Place,
-    child: Option<Child>,
-    failed_run: Option<Run>,
+    child: MemoryChild,
     started: Vec<Items<Text>>,
     folders: Vec<Text>,
-    faults: u64,
 }
 
 impl<T: Table> Model for TableSeat<T> {
-    ghost use Rattle.std.specs.Prelude.{Some, option_map};
-    ghost use Rattle.outside.specs.Seats.{Seat, Tells, is_idle, is_held};
+    ghost use Rattle.std.specs.Prelude.{Some};
+    ghost use Rattle.outside.specs.MemoryChildren.{Shows};
+    ghost use Rattle.outside.specs.Seats.{Seat};
 
     ghost Value = { Seat };
 
-    ghost view = { λ s. record { told = record { idle = is_idle s.place; held = is_held s.place; current = option_map (λ c. c.run) s.child; failed_run = s.failed_run; started = Some s.started.items; folders = Some s.folders.items; faults = s.faults }; course = s.course } };
+    ghost view = { λ s. record { told = record s.child.told { started = Some s.started.items; folders = Some s.folders.items }; course = s.course } };
 
-    ghost invariant = { λ s. Tells T.outcome s.place s.child };
-}
-
-/// Stores a value in place of the one before.
-fn store<V: Drop>(place: &mut V, value: V)
-    ensures { place.new ≡ value }
-{
-    *place = value;
-}
-
-/// The other copy of the child's run.
-fn spare_of(child: Child) -> Option<Run>
-    ensures { result ≡ child.spare }
-{
-    child.spare
-}
-
-/// The child of a run that does what the table says.
-fn told_child<T: Table>(alloc: Global, run: &Run) -> Result<Child, Memory>
-    ensures run { IfOk result (λ c. c.run ≡ run.now) }
-    ensures spare { IfOk result (λ c. c.spare ≡ Some run.now) }
-    ensures output { IfOk result (λ c. Reads T.outcome c) }
-{
-    let (copy, spare) = (run.copy()?, run.copy()?);
-    let output = output_of(alloc, T::outcome(&copy.key), copy.cutoff)?;
-    Ok(Child {
-        run: copy,
-        spare: Some(spare),
-        output,
-    })
+    ghost invariant = { λ s. Shows T.outcome s.child };
 }
 
 impl<T: Table> TableSeat<T> {
@@ -99,12 +48,9 @@ impl<T: Table> TableSeat<T> {
             of: PhantomData,
             alloc,
             course: Course::new(script),
-            place: Place::Idle,
-            child: None,
-            failed_run: None,
+            child: MemoryChild::new(alloc),
             started: Vec::new(alloc),
             folders: Vec::new(alloc),
-            faults: 0,
         })
     }
 
@@ -126,7 +72,7 @@ impl<T: Table> TableSeat<T> {
     pub fn faults(&self) -> u64
         ensures { result ≡ self.now.told.faults }
     {
-        self.faults
+        self.child.faults()
     }
 }
 
@@ -157,21 +103,20 @@ impl<T: Table> Spawner for TableSeat<T> {
         ensures counted { self.new.told.faults ≡ count_after (has_failed result) self.old.told.faults }
         ensures counts { self.old.told.faults ≤ self.new.told.faults }
     {
-        self.place = Place::Idle;
+        self.child.clear();
         self.started.reserve(1)?;
         self.folders.reserve(1)?;
         let words = Items::new(copy_texts(self.alloc, words)?);
         let folder = Text::of(self.alloc, dir)?;
-        let child = told_child::<T>(self.alloc, run)?;
-        if !self.course.start() {
-            store(&mut self.failed_run, spare_of(child));
-            self.faults = self.faults.saturating_add(1);
+        let output = output_of(self.alloc, T::outcome(&run.key), run.cutoff)?;
+        let copy = run.copy()?;
+        let has_failed = !self.course.start();
+        self.child.start(copy, output, has_failed);
+        if has_failed {
             return Err(Fault::Failed);
         }
         self.started.push_reserved(words);
         self.folders.push_reserved(folder);
-        store(&mut self.child, Some(child));
-        self.place = Place::Runs;
         Ok(())
     }
 
@@ -190,30 +135,11 @@ impl<T: Table> Spawner for TableSeat<T> {
         ensures counted { self.new.told.faults ≡ count_after (has_look_failed result) self.old.told.faults }
         ensures counts { self.old.told.faults ≤ self.new.told.faults }
     {
-        match self.course.look() {
-            Ok(Poll::Pending) => Ok(Poll::Pending),
-            Ok(Poll::Ended) => {
-                self.place = Place::Ended;
-                Ok(Poll::Ended)
-            }
-            Err(_) => {
-                let spare = match &mut self.child {
-                    Some(child) => child.spare.take(),
-                    None => None,
-                };
-                store(&mut self.failed_run, spare);
-                self.faults = self.faults.saturating_add(1);
-                self.place = Place::Idle;
-                Err(Fail)
-            }
-        }
+        self.child.look(self.course.look())
     }
 
     fn output(&self) -> &[u8] {
-        match &self.child {
-            Some(child) => child.output.as_str().as_bytes(),
-            None => &[],
-        }
+        self.child.output()
     }
 
     fn kill(&mut self)
@@ -226,8 +152,7 @@ impl<T: Table> Spawner for TableSeat<T> {
         ensures failed_run { self.new.told.failed_run ≡ self.old.told.failed_run }
         ensures faults { self.new.told.faults ≡ self.old.told.faults }
     {
-        store(&mut self.child, None);
-        self.place = Place::Idle;
+        self.child.clear();
     }
 
     fn pause(&mut self)

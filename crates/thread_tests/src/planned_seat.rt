@@ -1,9 +1,9 @@
 //! A seat in memory whose children wait for what other seats do. What its runs come to isn't told.
-ghost use Rattle.std.specs.Prelude.{◌≡◌, false, IfOk};
+ghost use Rattle.std.specs.Prelude.{IsTrue, IfOk};
 
 use crate::plan::{Fate, Plan};
 use objective::Memory;
-use outside::{Fail, Fault, LastRuns, Poll, Spawner, Table, output_of};
+use outside::{Fail, Fault, MemoryChild, Poll, Spawner, Table, output_of};
 use plain_text::{Text, seconds_text};
 use std::alloc::Global;
 use std::sync::Arc;
@@ -22,14 +22,10 @@ pub struct PlannedSeat {
     plan: Plan,
     /// What was counted so far, over all seats.
     counted: Arc<AtomicU64, Global>,
-    runs: LastRuns,
-    is_running: bool,
-    is_held: bool,
+    child: MemoryChild,
     fate: Fate,
     looks: u64,
-    output: Text,
     starts: Vec<String>,
-    faults: u64,
 }
 
 /// The value, the seed and the cutoff of a run with one setting, as in `a2@10.000000`.
@@ -51,20 +47,16 @@ impl PlannedSeat {
         plan: Plan,
         counted: &Arc<AtomicU64, Global>,
     ) -> Result<PlannedSeat, Memory>
-        ensures { IfOk result (λ s. s.is_running ≡ false) }
+        ensures { IfOk result (λ s. IsTrue s.child.told.idle) }
     {
         Ok(PlannedSeat {
             alloc,
             plan,
             counted: Arc::try_clone(counted)?,
-            runs: LastRuns::new(),
-            is_running: false,
-            is_held: false,
+            child: MemoryChild::new(alloc),
             fate: Fate::Ends(0),
             looks: 0,
-            output: Text::new(String::new(alloc)),
             starts: Vec::new(alloc),
-            faults: 0,
         })
     }
 
@@ -75,7 +67,7 @@ impl PlannedSeat {
 
     /// How many starts and looks have failed.
     pub fn faults(&self) -> u64 {
-        self.faults
+        self.child.faults()
     }
 
     /// Counts a failure, and tells whether it is the first.
@@ -99,14 +91,14 @@ impl PlannedSeat {
 }
 
 impl Spawner for PlannedSeat {
-    ghost use Rattle.std.specs.Prelude.{None, not};
+    ghost use Rattle.std.specs.Prelude.{None};
 
-    ghost told = { λ s. record { idle = not s.is_running; held = s.is_held; current = s.runs.current; failed_run = s.runs.failed_run; started = None; folders = None; faults = s.faults } };
+    ghost told = { λ s. record s.child.told { started = None; folders = None } };
 
     ghost truth = { None };
 
     fn start(&mut self, _dir: &str, _words: &[Text], run: &Run) -> Result<(), Fault> {
-        self.is_held = false;
+        self.child.clear();
         self.starts.reserve(1)?;
         let copy = run.copy()?;
         let cell = cell_text(self.alloc, run)?;
@@ -116,16 +108,13 @@ impl Spawner for PlannedSeat {
             return Err(Fault::Memory);
         }
         let fails = fate == Fate::CannotStart && self.is_first_failure();
-        self.runs.begin(copy, fails);
+        self.child.start(copy, output, fails);
         if fails {
-            self.faults = self.faults.saturating_add(1);
             return Err(Fault::Failed);
         }
         self.starts.push_reserved(cell);
         self.fate = fate;
         self.looks = 0;
-        self.output = output;
-        self.is_running = true;
         if self.plan.counts(fate) {
             self.counted.fetch_add(1, Ordering::SeqCst);
         }
@@ -134,28 +123,22 @@ impl Spawner for PlannedSeat {
 
     fn poll(&mut self) -> Result<Poll, Fail> {
         self.looks = self.looks.saturating_add(1);
-        self.is_held = false;
-        if self.is_bad_look() {
-            self.is_running = false;
-            self.runs.fail();
-            self.faults = self.faults.saturating_add(1);
-            return Err(Fail);
-        }
-        if self.is_awaited() {
-            return Ok(Poll::Pending);
-        }
-        self.is_running = false;
-        self.is_held = true;
-        Ok(Poll::Ended)
+        let found = if self.is_bad_look() {
+            Err(Fail)
+        } else if self.is_awaited() {
+            Ok(Poll::Pending)
+        } else {
+            Ok(Poll::Ended)
+        };
+        self.child.look(found)
     }
 
     fn output(&self) -> &[u8] {
-        self.output.as_str().as_bytes()
+        self.child.output()
     }
 
     fn kill(&mut self) {
-        self.is_running = false;
-        self.is_held = false;
+        self.child.clear();
     }
 
     /// Lets other threads go on.

@@ -1,91 +1,47 @@
 //! A seat whose runs come to what the formula of the toy says.
 ghost use Rattle.std.specs.Prelude.{◌≡◌, IfOk};
-ghost use Rattle.toy_bench.specs.Outcomes.{toy_looks};
-ghost use Rattle.toy_bench.specs.Seats.{Writes, first_told};
+ghost use Rattle.outside.specs.MemoryChildren.{first_child};
 
 use crate::outcomes::course_of;
 use objective::Memory;
-use outside::{Fail, Fault, Poll, Spawner, output_of};
+use outside::{Fail, Fault, MemoryChild, Poll, Spawner, output_of};
 use plain_text::Text;
 use std::alloc::Global;
 use std::marker::Model;
 use wrapper_lines::Run;
-
-/// Where the child of a seat stands.
-#[derive(Clone, Copy)]
-enum Place {
-    /// There is none.
-    Idle,
-    /// It runs.
-    Runs,
-    /// It has ended, and its output is held.
-    Ended,
-}
-
-/// A child that was started.
-#[derive(Drop)]
-struct Child {
-    run: Run,
-    /// What it writes.
-    output: Text,
-    /// How many looks come before it has ended.
-    looks: u64,
-}
 
 /// A seat whose runs come to what the formula of the toy says. Its starts and looks never
 /// fail. It keeps nothing of the runs before the last one.
 #[derive(Drop)]
 pub struct ToySeat {
     alloc: Global,
-    place: Place,
+    child: MemoryChild,
+    /// How many looks come before the child has ended.
     looks: u64,
-    child: Option<Child>,
 }
 
 impl Model for ToySeat {
-    ghost use Rattle.std.specs.Prelude.{None, IfSome, option_map};
-    ghost use Rattle.toy_bench.specs.Seats.{Seat, Writes, is_idle, is_held};
+    ghost use Rattle.std.specs.Prelude.{None};
+    ghost use Rattle.outside.specs.MemoryChildren.{Shows};
+    ghost use Rattle.toy_bench.specs.Outcomes.{toy_outcome};
+    ghost use Rattle.toy_bench.specs.Seats.{Seat};
 
     ghost Value = { Seat };
 
-    ghost view = { λ s. record { told = record { idle = is_idle s.place; held = is_held s.place; current = option_map (λ c. c.run) s.child; failed_run = None; started = None; folders = None; faults = 0 }; looks = s.looks } };
+    ghost view = { λ s. record { told = record s.child.told { started = None; folders = None }; looks = s.looks } };
 
-    ghost invariant = { λ s. IfSome s.child Writes };
-}
-
-/// Stores a value in place of the one before.
-fn store<V: Drop>(place: &mut V, value: V)
-    ensures { place.new ≡ value }
-{
-    *place = value;
-}
-
-/// The child of a run.
-fn child_of(alloc: Global, run: &Run) -> Result<Child, Memory>
-    ensures run { IfOk result (λ c. c.run ≡ run.now) }
-    ensures looks { IfOk result (λ c. c.looks ≡ toy_looks run.now.key) }
-    ensures writes { IfOk result Writes }
-{
-    let run = run.copy()?;
-    let course = course_of(alloc, &run.key)?;
-    let output = output_of(alloc, course.outcome, run.cutoff)?;
-    Ok(Child {
-        run,
-        output,
-        looks: course.looks,
-    })
+    ghost invariant = { λ s. Shows toy_outcome s.child };
 }
 
 impl ToySeat {
     /// A seat that has started nothing.
     pub fn new(alloc: Global) -> Result<ToySeat, Memory>
-        ensures told { IfOk result (λ s. s.told ≡ first_told) }
+        ensures told { IfOk result (λ s. s.told ≡ first_child.told) }
     {
         Ok(ToySeat {
             alloc,
-            place: Place::Idle,
+            child: MemoryChild::new(alloc),
             looks: 0,
-            child: None,
         })
     }
 }
@@ -122,11 +78,12 @@ impl Spawner for ToySeat {
         ensures counted { self.new.told.faults ≡ count_after (has_failed result) self.old.told.faults }
         ensures counts { self.old.told.faults ≤ self.new.told.faults }
     {
-        self.place = Place::Idle;
-        let child = child_of(self.alloc, run)?;
-        self.looks = child.looks;
-        store(&mut self.child, Some(child));
-        self.place = Place::Runs;
+        self.child.clear();
+        let copy = run.copy()?;
+        let course = course_of(self.alloc, &run.key)?;
+        let output = output_of(self.alloc, course.outcome, run.cutoff)?;
+        self.child.start(copy, output, false);
+        self.looks = course.looks;
         Ok(())
     }
 
@@ -145,11 +102,10 @@ impl Spawner for ToySeat {
         ensures counts { self.old.told.faults ≤ self.new.told.faults }
     {
         if self.looks == 0 {
-            self.place = Place::Ended;
-            return Ok(Poll::Ended);
+            return self.child.look(Ok(Poll::Ended));
         }
         self.looks -= 1;
-        Ok(Poll::Pending)
+        self.child.look(Ok(Poll::Pending))
     }
 
     /// The result line that shows what the run comes to under its cutoff.
@@ -158,14 +114,11 @@ impl Spawner for ToySeat {
         ensures line { IfSome self.now.told.current (λ run. result.now ≡ answer_line (seen (toy_outcome run.key) run.cutoff.0)) }
         ensures reads { (outcome : Key → Outcome) → Some toy_outcome ≡ Some outcome → IfSome self.now.told.current (λ run. answer_of result.now run.cutoff.0 ≡ seen (outcome run.key) run.cutoff.0) }
     {
-        match &self.child {
-            Some(child) => child.output.as_str().as_bytes(),
-            None => &[],
-        }
+        self.child.output()
     }
 
     fn kill(&mut self) {
-        self.place = Place::Idle;
+        self.child.clear();
     }
 
     fn pause(&mut self)

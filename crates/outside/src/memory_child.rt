@@ -1,0 +1,96 @@
+//! The child of a seat in memory.
+ghost use Rattle.std.specs.Prelude.{◌≡◌, ◌≤◌, true, false};
+ghost use Rattle.outside.specs.MemoryChildren.{first_child, child_after_start, child_after_look};
+
+use crate::faults::{Fail, Poll};
+use crate::last_runs::LastRuns;
+use plain_text::Text;
+use std::alloc::Global;
+use std::marker::Model;
+use wrapper_lines::Run;
+
+/// The child of a seat in memory: its run, what it writes, whether it runs and whether it has
+/// ended, and how many starts and looks have failed. No call takes memory.
+#[derive(Drop)]
+pub struct MemoryChild {
+    runs: LastRuns,
+    output: Text,
+    is_idle: bool,
+    is_held: bool,
+    faults: u64,
+}
+
+impl Model for MemoryChild {
+    ghost use Rattle.std.specs.Prelude.{None};
+    ghost use Rattle.outside.specs.MemoryChildren.{ChildState};
+
+    ghost Value = { ChildState };
+
+    ghost view = { λ c. record { told = record { idle = c.is_idle; held = c.is_held; current = c.runs.current; failed_run = c.runs.failed_run; started = None; folders = None; faults = c.faults }; output = c.output } };
+}
+
+impl MemoryChild {
+    /// No child was started yet.
+    pub fn new(alloc: Global) -> MemoryChild
+        ensures { result ≡ first_child }
+    {
+        MemoryChild {
+            runs: LastRuns::new(),
+            output: Text::new(String::new(alloc)),
+            is_idle: true,
+            is_held: false,
+            faults: 0,
+        }
+    }
+
+    /// No child runs, and no output is held.
+    pub fn clear(&mut self)
+        ensures { self.new ≡ record self.old { told = record self.old.told { idle = true; held = false } } }
+    {
+        self.is_idle = true;
+        self.is_held = false;
+    }
+
+    /// The child of this run was started, which writes this, or its start failed.
+    pub fn start(&mut self, run: Run, output: Text, has_failed: bool)
+        ensures change { self.new ≡ child_after_start has_failed run output self.old }
+        ensures counts { self.old.told.faults ≤ self.new.told.faults }
+    {
+        self.runs.begin(run, has_failed);
+        self.output = output;
+        self.is_idle = has_failed;
+        self.is_held = false;
+        if has_failed {
+            self.faults = self.faults.saturating_add(1);
+        }
+    }
+
+    /// A look at the child found this.
+    pub fn look(&mut self, found: Result<Poll, Fail>) -> Result<Poll, Fail>
+        ensures found { result ≡ found }
+        ensures change { self.new ≡ child_after_look found self.old }
+        ensures counts { self.old.told.faults ≤ self.new.told.faults }
+    {
+        self.is_idle = !matches!(found, Ok(Poll::Pending));
+        self.is_held = matches!(found, Ok(Poll::Ended));
+        if found.is_err() {
+            self.runs.fail();
+            self.faults = self.faults.saturating_add(1);
+        }
+        found
+    }
+
+    /// What the child writes that was started last.
+    pub fn output(&self) -> &[u8]
+        ensures { result.now ≡ self.now.output }
+    {
+        self.output.as_str().as_bytes()
+    }
+
+    /// How many starts and looks have failed.
+    pub fn faults(&self) -> u64
+        ensures { result ≡ self.now.told.faults }
+    {
+        self.faults
+    }
+}
