@@ -1,176 +1,192 @@
 -- How a drive goes on after a run, and what it comes to where it ends.
-use Rattle.std.proofs.Common.{ℕ, ◌≡◌, ◌≤◌, false, List, [], ◌∷◌, Option, Some, refl, sym, ap, subst, ◌∙◌, arith}
-use Rattle.std.specs.Prelude.{IfSome, IsSome, IsSomeAnd}
+use Rattle.std.proofs.Common.{◌≡◌, ◌≤◌, true, false, true≢false, Bool, List, [], ◌∷◌, Option, Some, None, Ok, Err, refl, sym, ap, subst, ◌∙◌, ◌↔◌, arith, if◌then◌else◌}
+use Rattle.std.specs.Prelude.{IfSome, IsSome, IsSomeAnd, IsTrue}
 use Rattle.objective.specs.declared.Answer.{Answer}
 use Rattle.wrapper_lines.specs.declared.runs.Program.{Program}
-use Rattle.outside.specs.Counts.{Rose}
+use Rattle.outside.specs.declared.faults.Fault.{Fault}
+use Rattle.outside.specs.declared.faults.Fault.TheVariants as fault
 use Rattle.ils_face.specs.declared.asks.Reply.{Reply}
 use Rattle.ils_face.specs.Rules.{Rules}
 use Rattle.ils_face.specs.Views.{View}
 use Rattle.board_steps.specs.Boards.{BoardState, PlainBoard, plain}
 use Rattle.board_steps.specs.declared.tickets.Ticket.{Ticket}
-use Rattle.board_steps.specs.JournalRuns.{AreTaken}
+use Rattle.board_steps.specs.Numbering.{tickets_of}
 use Rattle.board_steps.specs.Steps.{after_lost, after_stop}
 use Rattle.pool_run.specs.declared.driving.Driven.{Driven}
 use Rattle.pool_run.specs.declared.driving.Driven.TheVariants as driven
-use Rattle.pool_run.specs.declared.runs.RunEnd.TheVariants as run_end
-use Rattle.pool_run.specs.Drives.{HasMade, DroveTo, is_over, has_ended}
-use Rattle.pool_run.specs.RunEnds.{RanTicket, seat_after}
+use Rattle.pool_run.specs.Drives.{HasMade, IsLeft, DroveTo, is_over, has_ended}
+use Rattle.pool_run.specs.RunEnds.{RanTicket, ended_by, seat_after, stopped_for}
 use Rattle.pool_run.specs.Seats.{SeatState, last_of, fault_of, IsFault}
-use Rattle.pool_run.specs.Turns.{CameToEnd, RanShort}
-use Rattle.pool_run.proofs.DriveTurns.{over_by, search-lost, search-stop, over-same, over-plain, done-over, IsUnderWay, HasTaken, no-fault, kept-fault}
-use Rattle.pool_run.proofs.MadeRuns.{made-still, made-answer, live-answered, stopped-answered}
-use Rattle.pool_run.proofs.StartedRuns.{some-then}
-use Rattle.pool_run.proofs.TurnSteps.{adds-then, adds-lost, adds-stop}
-
--- a count that rose since later rose since earlier
-rose-since : (first before after : ℕ) → first ≤ before → Rose before after → Rose first after
-rose-since first before after least rose = omega (arith, least, rose)
+use Rattle.pool_run.specs.Turns.{KeepsTickets, CameToEnd, RanShort}
+use Rattle.pool_run.specs.Works.{HasWorked, IsAtWork}
+use Rattle.pool_run.proofs.DriveTurns.{over_by, over-same, over-plain, done-over, IsUnderWay, HasTaken}
+use Rattle.pool_run.proofs.MadeRuns.{made-still, made-answer, live-answered, live-lost, stopped-answered}
+use Rattle.pool_run.proofs.StartedRuns.{some-then, kept-by, since}
+use Rattle.pool_run.proofs.TurnSteps.{search-given_up, keeps-stop, none-live, stop-stops}
 
 -- a board's fields, as plain data
-live-plain : (x : BoardState) → (plain x).live ≡ [] → x.live ≡ []
+live-plain : (x : BoardState) → x.live ≡ (plain x).live
 unfolding plain
-live-plain x e = e
+live-plain x = refl
 
-stopped-plain : (x : BoardState) → (plain x).stopped ≡ false → x.stopped ≡ false
+stopped-plain : (x : BoardState) → x.stopped ≡ (plain x).stopped
 unfolding plain
-stopped-plain x e = e
+stopped-plain x = refl
 
-going-plain : (x : BoardState) → x.stopped ≡ false → (plain x).stopped ≡ false
-unfolding plain
-going-plain x e = e
+-- no fault is kept
+no-fault : (seat : SeatState) (P : Ticket → Type 0) → seat.failed ≡ false → IfSome (fault_of seat) P
+no-fault seat P sound =
+    let none : fault_of seat ≡ None = ap (λ f. if f then last_of seat.tickets else None) sound in
+    let Q : Option Ticket → Type 0 = λ o. IfSome o P in
+    subst Q (sym none) tt
+
+-- so it keeps one exactly after a fault, which didn't come
+kept-none : (result : Driven) (seat : SeatState) → (result ≡ driven.Fault → ⊥) → seat.failed ≡ false → result ≡ driven.Fault ↔ IsSome (fault_of seat)
+kept-none result seat no_fault sound =
+    let none : fault_of seat ≡ None = ap (λ f. if f then last_of seat.tickets else None) sound in
+    let S : Option Ticket → Type 0 = λ o. IsSome o in
+    (λ e. absurd (no_fault e), λ some. absurd (true≢false (sym (subst S none some))))
+
+-- no ticket is left, unless after a fault
+left-none : (result : Driven) (seat : SeatState) → (result ≡ driven.Fault → ⊥) → IsLeft result seat []
+left-none driven.Ended seat no_fault = refl
+left-none driven.Fault seat no_fault = absurd (no_fault refl)
+left-none driven.Memory seat no_fault = omega arith
 
 module _ (shown : Rules → List Reply → View) (program : Program) (board : BoardState) (seat : SeatState) where
   -- the answer of the ticket was recorded
-  pub underway-on : (b c : BoardState) (old s s' : SeatState) (t : Ticket) (answer : Answer) → HasTaken shown program board b seat old s t → AreTaken (plain b)
-      → old.failed ≡ false → s' ≡ seat_after (run_end.Answer answer) s s'.told
-      → IsSomeAnd (last_of s.tickets) (RanTicket program (run_end.Answer answer) (plain b) (plain c) s.told s'.told)
-      → IsUnderWay program board c seat s'
-  underway-on b c old s s' t answer has taken sound kept runs =
-      let ran = some-then (last_of s.tickets) (RanTicket program (run_end.Answer answer) (plain b) (plain c) s.told s'.told) t has.last runs in
-      let made = made-answer program (plain board) seat.told s.told seat.tickets s.tickets (plain b) t answer s'.told has.live taken ran.started has.made in
+  pub underway-on : (b c : BoardState) (s s' : SeatState) (t : Ticket) (answer : Answer) → HasTaken shown program board b seat s t
+      → s' ≡ seat_after (Ok answer) s s'.told → IsSomeAnd (last_of s.tickets) (RanTicket program (Ok answer) (plain b) (plain c) s.told s'.told)
+      → IsTrue s'.told.idle → s.told.faults ≤ s'.told.faults → IsUnderWay program board c seat s'
+  underway-on b c s s' t answer has kept runs idle counts =
+      let ran = some-then (last_of s.tickets) (RanTicket program (Ok answer) (plain b) (plain c) s.told s'.told) t has.last runs in
+      let made = made-answer program (plain board) seat.told s.told seat.tickets s.tickets (plain b) t answer s'.told has.live has.taken ran.started has.made in
       let P : PlainBoard → Type 0 = λ x. HasMade program [] (plain board) x seat.told s'.told seat.tickets s.tickets in
       let Q : List Ticket → Type 0 = λ ts. HasMade program [] (plain board) (plain c) seat.told s'.told seat.tickets ts in
+      let work : IsAtWork program seat s' = record {
+        worked = has.worked s' (ap (λ x. x.tickets) kept) ran.may;
+        sound = ap (λ x. x.failed) kept ∙ has.sound;
+        counts = omega (arith, has.counts, counts);
+        idle = idle;
+      } in
       record {
-        free = live-plain c (ap (λ x. x.live) ran.after ∙ live-answered program (plain board) seat.told s.told seat.tickets s.tickets (plain b) t answer has.live);
-        going = stopped-plain c (ap (λ x. x.stopped) ran.after ∙ stopped-answered program (plain board) seat.told s.told seat.tickets s.tickets (plain b) t answer has.live ∙ has.going);
-        sound = ap (λ x. x.failed) kept ∙ has.sound ∙ sound;
+        work = work;
+        free = live-plain c ∙ ap (λ x. x.live) ran.after ∙ live-answered (plain b) t answer has.live;
+        going = stopped-plain c ∙ ap (λ x. x.stopped) ran.after
+            ∙ stopped-answered (plain b) t answer has.live ∙ has.going;
         made = subst Q (sym (ap (λ x. x.tickets) kept)) (subst P (sym ran.after) made);
+      }
+
+  -- no ticket is left: no run is needed any more, or there was no memory for a turn
+  drove-still : (result : Driven) (b0 b : BoardState) (s0 s : SeatState) (short : Bool) → (result ≡ driven.Fault → ⊥) → (result ≡ driven.Memory → short ≡ true)
+      → has_ended result ≡ is_over shown b → (has_ended result ≡ false → b.stopped ≡ true) → IsUnderWay program board b0 seat s0
+      → KeepsTickets (plain b0) (plain b) → s ≡ record s0 { short = short } → DroveTo shown program result board b seat s
+  drove-still result b0 b s0 s short no_fault memory over stopped way keeps same =
+      let made = made-still program (plain board) seat.told s0.told seat.tickets s0.tickets [] (plain b0) (plain b) keeps.added way.made in
+      let P : SeatState → Type 0 = λ x. HasMade program [] (plain board) (plain b) seat.told x.told seat.tickets x.tickets in
+      let W : SeatState → Type 0 = λ x. HasWorked program seat x in
+      let faults = ap (λ x. x.told.faults) same in
+      record {
+        idle = ap (λ x. x.told.idle) same ∙ way.work.idle;
+        counts = omega (arith, way.work.counts, faults);
+        left = [];
+        told = s.told;
+        made = subst P (sym same) made;
+        last = left-none result s no_fault;
+        now = λ e. refl;
+        worked = subst W (sym same) (record { worked = way.work.worked.worked; tickets = way.work.worked.tickets; started = way.work.worked.started });
+        over = over;
+        stopped = stopped;
+        free = live-plain b ∙ none-live (plain b).live (keeps.live ∙ ap tickets_of (sym (live-plain b0) ∙ way.free));
+        fault = no-fault s (IsFault seat.told s.told) (ap (λ x. x.failed) same ∙ way.work.sound);
+        kept = kept-none result s no_fault (ap (λ x. x.failed) same ∙ way.work.sound);
+        short = λ e. ap (λ x. x.short) same ∙ memory e;
       }
 
   -- no run is needed any more
   pub drove-ended : (b0 b : BoardState) (s0 s : SeatState) → IsUnderWay program board b0 seat s0 → CameToEnd shown (plain b0) (plain b) s0 s
       → DroveTo shown program driven.Ended board b seat s
   drove-ended b0 b s0 s way came =
-      let made = made-still program (plain board) seat.told s0.told seat.tickets s0.tickets [] (plain b0) (plain b) came.keeps.added way.made in
-      let P : SeatState → Type 0 = λ x. HasMade program [] (plain board) (plain b) seat.told x.told seat.tickets x.tickets in
-      record {
-        left = [];
-        told = s.told;
-        made = subst P (sym came.same) made;
-        last = refl;
-        now = λ e. refl;
-        over = sym (sym (over-plain shown b) ∙ done-over shown (plain b) came.done (came.going ∙ going-plain b0 way.going));
-        fault = no-fault s (IsFault seat.told s.told) (ap (λ x. x.failed) came.same ∙ way.sound);
-        kept = λ e. absurd (cc);
-        short = λ e. absurd (cc);
-      }
+      let going = came.keeps.going ∙ sym (stopped-plain b0) ∙ way.going in
+      let over = sym (sym (over-plain shown b) ∙ done-over shown (plain b) came.done going) in
+      drove-still driven.Ended b0 b s0 s s0.short (λ e. absurd (cc)) (λ e. absurd (cc)) over (λ e. absurd (cc)) way came.keeps.keeps came.same
 
   -- there was no memory for a turn, at the end of the search or before
-  pub drove-short : (result : Driven) (b0 b : BoardState) (s0 s : SeatState) → has_ended result ≡ is_over shown b → (result ≡ driven.Fault → ⊥)
+  pub drove-short : (result : Driven) (b0 b : BoardState) (s0 s : SeatState) → (result ≡ driven.Fault → ⊥) → has_ended result ≡ is_over shown b
       → IsUnderWay program board b0 seat s0 → RanShort shown (plain b0) (plain b) s0 s → DroveTo shown program result board b seat s
-  drove-short driven.Fault b0 b s0 s over not_fault way ran = absurd (not_fault refl)
-  drove-short driven.Ended b0 b s0 s over not_fault way ran =
-      let made = made-still program (plain board) seat.told s0.told seat.tickets s0.tickets [] (plain b0) (plain b) ran.keeps.added way.made in
-      let P : SeatState → Type 0 = λ x. HasMade program [] (plain board) (plain b) seat.told x.told seat.tickets x.tickets in
-      record {
-        left = [];
-        told = s.told;
-        made = subst P (sym ran.noted) made;
-        last = refl;
-        now = λ e. refl;
-        over = over;
-        fault = no-fault s (IsFault seat.told s.told) (ap (λ x. x.failed) ran.noted ∙ way.sound);
-        kept = λ e. absurd (cc);
-        short = λ e. absurd (cc);
-      }
-  drove-short driven.Memory b0 b s0 s over not_fault way ran =
-      let made = made-still program (plain board) seat.told s0.told seat.tickets s0.tickets [] (plain b0) (plain b) ran.keeps.added way.made in
-      let P : SeatState → Type 0 = λ x. HasMade program [] (plain board) (plain b) seat.told x.told seat.tickets x.tickets in
-      record {
-        left = [];
-        told = s.told;
-        made = subst P (sym ran.noted) made;
-        last = omega arith;
-        now = λ e. absurd (cc);
-        over = over;
-        fault = no-fault s (IsFault seat.told s.told) (ap (λ x. x.failed) ran.noted ∙ way.sound);
-        kept = λ e. absurd (cc);
-        short = λ e. ap (λ x. x.short) ran.noted;
-      }
+  drove-short result b0 b s0 s no_fault over way ran =
+      drove-still result b0 b s0 s true no_fault (λ e. refl) over (λ e. stopped-plain b ∙ ran.stopped) way ran.keeps ran.noted
 
-  -- the ticket was lost and the board stopped
-  lost-made : (b c : BoardState) (old s : SeatState) (t : Ticket) → HasTaken shown program board b seat old s t → plain c ≡ after_stop (after_lost (plain b) t)
-      → HasMade program (t ∷ []) (plain board) (plain c) seat.told s.told seat.tickets s.tickets
-  lost-made b c old s t has after =
-      let adds = adds-then (plain b) (after_lost (plain b) t) (after_stop (after_lost (plain b) t)) (adds-lost (plain b) t) (adds-stop (after_lost (plain b) t)) in
-      let P : PlainBoard → Type 0 = λ x. HasMade program (t ∷ []) (plain board) x seat.told s.told seat.tickets s.tickets in
-      subst P (sym after) (made-still program (plain board) seat.told s.told seat.tickets s.tickets (t ∷ []) (plain b) (after_stop (after_lost (plain b) t)) adds has.made)
+  -- a ticket was given up
+  record HasLost (c : BoardState) (s : SeatState) (t : Ticket) : Type 0 where
+    made : HasMade program (t ∷ []) (plain board) (plain c) seat.told s.told seat.tickets s.tickets
+    over : false ≡ is_over shown c
+    stopped : c.stopped ≡ true
+    free : c.live ≡ []
 
-  lost-more : (b c : BoardState) (old s : SeatState) (t : Ticket) → HasTaken shown program board b seat old s t → plain c ≡ after_stop (after_lost (plain b) t)
-      → false ≡ is_over shown c
-  lost-more b c old s t has after =
+  has-lost : (b c : BoardState) (s : SeatState) (t : Ticket) → HasTaken shown program board b seat s t
+      → plain c ≡ stopped_for t.kind (after_lost (plain b) t) → HasLost c s t
+  has-lost b c s t has after =
       let lost = after_lost (plain b) t in
-      sym (sym (over-plain shown c) ∙ ap (λ x. over_by shown x.problem x.replies x.aborted) after
-      ∙ over-same shown lost (after_stop lost) (search-stop lost) ∙ over-same shown (plain b) lost (search-lost (plain b) t)
-      ∙ over-plain shown b ∙ has.more)
+      let keeps = search-given_up (plain b) t in
+      let P : PlainBoard → Type 0 = λ x. HasMade program (t ∷ []) (plain board) x seat.told s.told seat.tickets s.tickets in
+      record {
+        made = subst P (sym after)
+            (made-still program (plain board) seat.told s.told seat.tickets s.tickets (t ∷ []) (plain b) (stopped_for t.kind lost) keeps.added has.made);
+        over = sym (sym (over-plain shown c) ∙ ap (λ x. over_by shown x.problem x.replies x.aborted) after
+            ∙ over-same shown (plain b) (stopped_for t.kind lost) keeps ∙ over-plain shown b ∙ has.more);
+        stopped = stopped-plain c ∙ ap (λ x. x.stopped) after ∙ ap (λ kind. (stopped_for kind lost).stopped) has.asked ∙ stop-stops lost;
+        free = live-plain c ∙ ap (λ x. x.live) after ∙ ap (λ kind. (stopped_for kind lost).live) has.asked
+            ∙ none-live (after_stop lost).live ((keeps-stop lost).live ∙ ap tickets_of (live-lost (plain b) t has.live));
+      }
 
-  -- the child couldn't be started or looked at
-  pub drove-fault : (b c : BoardState) (old s s' : SeatState) (t : Ticket) → HasTaken shown program board b seat old s t
-      → seat.told.faults ≤ s.told.faults → s' ≡ seat_after run_end.Failed s s'.told
-      → IsSomeAnd (last_of s.tickets) (RanTicket program run_end.Failed (plain b) (plain c) s.told s'.told)
-      → DroveTo shown program driven.Fault board c seat s'
-  drove-fault b c old s s' t has counts kept runs =
-      let ran = some-then (last_of s.tickets) (RanTicket program run_end.Failed (plain b) (plain c) s.told s'.told) t has.last runs in
+  -- so the drive is at its end
+  pub drove-lost : (b c : BoardState) (s s' : SeatState) (t : Ticket) (f : Fault) → HasTaken shown program board b seat s t
+      → s' ≡ seat_after (Err f) s s'.told → IsSomeAnd (last_of s.tickets) (RanTicket program (Err f) (plain b) (plain c) s.told s'.told)
+      → IsTrue s'.told.idle → s.told.faults ≤ s'.told.faults → DroveTo shown program (ended_by f) board c seat s'
+  drove-lost b c s s' t fault.Failed has kept runs idle counts =
+      let ran = some-then (last_of s.tickets) (RanTicket program (Err fault.Failed) (plain b) (plain c) s.told s'.told) t has.last runs in
+      let lost = has-lost b c s t has ran.after in
       let list : s'.tickets ≡ s.tickets = ap (λ x. x.tickets) kept in
-      let fault : fault_of s' ≡ Some t = kept-fault s' t (ap (λ x. x.failed) kept) (ap last_of list ∙ has.last) in
-      let is : IsFault seat.told s'.told t = record {
-        asked = has.asked;
-        failed = ran.failed;
-        rose = rose-since seat.told.faults s.told.faults s'.told.faults counts ran.rose;
-      } in
+      let last : last_of s'.tickets ≡ Some t = ap last_of list ∙ has.last in
+      let is : fault_of s' ≡ Some t = ap (λ f. if f then last_of s'.tickets else None) (ap (λ x. x.failed) kept) ∙ last in
+      let here : IsFault s.told s'.told t = record { asked = has.asked; failed = ran.failed refl; rose = ran.rose refl } in
       let P : List Ticket → Type 0 = λ ts. HasMade program (t ∷ []) (plain board) (plain c) seat.told s.told seat.tickets ts in
       let L : Option Ticket → Type 0 = λ o. IsSomeAnd o (λ u. t ∷ [] ≡ u ∷ []) in
-      let F : Option Ticket → Type 0 = λ o. IfSome o (IsFault seat.told s'.told) in
       let S : Option Ticket → Type 0 = λ o. IsSome o in
       record {
+        idle = idle;
+        counts = omega (arith, has.counts, counts);
         left = t ∷ [];
         told = s.told;
-        made = subst P (sym list) (lost-made b c old s t has ran.after);
-        last = subst L (sym fault) refl;
+        made = subst P (sym list) lost.made;
+        last = subst L (sym is) refl;
         now = λ e. absurd (cc);
-        over = lost-more b c old s t has ran.after;
-        fault = subst F (sym fault) is;
-        kept = λ e. subst S (sym fault) refl;
+        worked = has.worked s' list ran.may;
+        over = lost.over;
+        stopped = λ e. lost.stopped;
+        free = lost.free;
+        fault = kept-by s' t (IsFault seat.told s'.told) last (λ failed. since seat.told s.told s'.told t has.counts here);
+        kept = (λ e. subst S (sym is) refl, λ some. refl);
         short = λ e. absurd (cc);
       }
-
-  -- there was no memory for the run
-  pub drove-memory : (b c : BoardState) (old s s' : SeatState) (t : Ticket) → HasTaken shown program board b seat old s t
-      → old.failed ≡ false → s' ≡ seat_after run_end.Memory s s'.told
-      → IsSomeAnd (last_of s.tickets) (RanTicket program run_end.Memory (plain b) (plain c) s.told s'.told)
-      → DroveTo shown program driven.Memory board c seat s'
-  drove-memory b c old s s' t has sound kept runs =
-      let ran = some-then (last_of s.tickets) (RanTicket program run_end.Memory (plain b) (plain c) s.told s'.told) t has.last runs in
+  drove-lost b c s s' t fault.Memory has kept runs idle counts =
+      let ran = some-then (last_of s.tickets) (RanTicket program (Err fault.Memory) (plain b) (plain c) s.told s'.told) t has.last runs in
+      let lost = has-lost b c s t has ran.after in
       let P : List Ticket → Type 0 = λ ts. HasMade program (t ∷ []) (plain board) (plain c) seat.told s.told seat.tickets ts in
       record {
+        idle = idle;
+        counts = omega (arith, has.counts, counts);
         left = t ∷ [];
         told = s.told;
-        made = subst P (sym (ap (λ x. x.tickets) kept)) (lost-made b c old s t has ran.after);
+        made = subst P (sym (ap (λ x. x.tickets) kept)) lost.made;
         last = omega arith;
         now = λ e. absurd (cc);
-        over = lost-more b c old s t has ran.after;
-        fault = no-fault s' (IsFault seat.told s'.told) (ap (λ x. x.failed) kept ∙ has.sound ∙ sound);
-        kept = λ e. absurd (cc);
+        worked = has.worked s' (ap (λ x. x.tickets) kept) ran.may;
+        over = lost.over;
+        stopped = λ e. lost.stopped;
+        free = lost.free;
+        fault = no-fault s' (IsFault seat.told s'.told) (ap (λ x. x.failed) kept ∙ has.sound);
+        kept = kept-none driven.Memory s' (λ e. absurd (cc)) (ap (λ x. x.failed) kept ∙ has.sound);
         short = λ e. ap (λ x. x.short) kept;
       }

@@ -1,6 +1,5 @@
--- What each turn of a drive makes of what was made before, and what a drive comes to where it ends.
-use Rattle.std.proofs.Common.{ℕ, ◌≡◌, ◌++◌, ◌||◌, ◌⊎◌, Bool, true, false, List, [], ◌∷◌, Option, Some, None, All, refl, sym, ap, subst, ◌∙◌, inl, inr, if◌then◌else◌}
-use Rattle.std.specs.Prelude.{IfSome, IsSome, IsSomeAnd}
+-- Where a drive stands between two turns, and once its seat took a ticket.
+use Rattle.std.proofs.Common.{arith, ℕ, ◌≡◌, ◌≤◌, ◌++◌, ◌||◌, ◌⊎◌, Bool, true, false, List, [], ◌∷◌, Option, Some, None, All, refl, sym, ap, subst, ◌∙◌, inl, inr, if◌then◌else◌}
 use Rattle.std.specs.Option.{is_some}
 use Rattle.std.proofs.lemmas.List.Elements.{All-head}
 use Rattle.objective.specs.Costs.{Table}
@@ -8,6 +7,7 @@ use Rattle.objective.specs.declared.Micros.{Micros}
 use Rattle.objective.specs.declared.Outcome.{Outcome}
 use Rattle.wrapper_lines.specs.declared.runs.Key.{Key}
 use Rattle.wrapper_lines.specs.declared.runs.Program.{Program}
+use Rattle.outside.specs.ToldStates.{SpawnerTold}
 use Rattle.uncapped.specs.Uncapped.{Run}
 use Rattle.ils_face.specs.declared.asks.Ask.{Ask}
 use Rattle.ils_face.specs.declared.asks.Ask.TheVariants.{Full, Versus, End}
@@ -25,59 +25,29 @@ use Rattle.board_steps.specs.Boards.{BoardState, PlainBoard, plain}
 use Rattle.board_steps.specs.declared.answers.Phase.TheVariants as phase
 use Rattle.board_steps.specs.declared.answers.Taken.TheVariants as taken
 use Rattle.board_steps.specs.declared.tickets.Kind.TheVariants.{Asked}
-use Rattle.board_steps.specs.declared.tickets.LiveTicket.{LiveTicket}
 use Rattle.board_steps.specs.declared.tickets.Ticket.{Ticket}
+use Rattle.board_steps.specs.JournalRuns.{AreTaken}
 use Rattle.board_steps.specs.Numbering.{IsTicket, tickets_of}
 use Rattle.board_steps.specs.Phases.{ask_on, asked_cell, phase_by, phase_of, verdict_on}
 use Rattle.board_steps.specs.Problem.{Problem}
-use Rattle.board_steps.specs.Steps.{ticket_for, taken_on, with_ticket, with_end, with_loss, after_lost, stopped_board, after_stop}
-use Rattle.board_steps.specs.Tickets.{has_ticket, found_in}
+use Rattle.board_steps.specs.Steps.{ticket_for, taken_on, with_ticket}
+use Rattle.board_steps.specs.Tickets.{has_ticket}
 use Rattle.board_steps.proofs.GivenTickets.{verdict-open, IsNeededTicket, IsAheadTicket, given}
-use Rattle.pool_run.specs.Drives.{IsAskedTicket, HasMade, is_end, is_over}
-use Rattle.pool_run.specs.Seats.{SeatState, last_of, fault_of}
+use Rattle.pool_run.specs.Drives.{IsAskedTicket, HasMade, MayDrive, is_end, is_over}
+use Rattle.pool_run.specs.Seats.{SeatState, last_of}
+use Rattle.pool_run.specs.Starts.{MayHaveStarted}
 use Rattle.pool_run.specs.Turns.{TookTicket, StayedIdle, is_done}
+use Rattle.pool_run.specs.Works.{HasWorked, IsAtWork}
 use Rattle.pool_run.proofs.MadeRuns.{alone, made-none, made-still, made-ticket}
-use Rattle.pool_run.proofs.StartedRuns.{last-more}
-use Rattle.pool_run.proofs.TurnSteps.{none-live}
-
--- a seat that took a ticket has a last one
-pub some-last : (shown : Rules → List Reply → View) (b b' : PlainBoard) (seat s : SeatState) → TookTicket shown b b' seat s → IsSome (last_of s.tickets)
-some-last shown b b' seat s took =
-    let last : last_of s.tickets ≡ Some took.ticket = ap (λ x. last_of x.tickets) took.list ∙ last-more seat.tickets took.ticket in
-    let P : Option Ticket → Type 0 = λ o. IsSome o in
-    subst P (sym last) refl
-
--- what holds of the one there is
-then-some : {X : Type 0} (o : Option X) (P : X → Type 0) (x : X) → o ≡ Some x → P x → IsSomeAnd o P
-then-some o P x is holds = let Q : Option _ → Type 0 = λ y. IsSomeAnd y P in subst Q (sym is) holds
+use Rattle.pool_run.proofs.StartedRuns.{took-last}
+use Rattle.pool_run.proofs.TurnSteps.{KeepsSearch, none-live}
+use Rattle.pool_run.proofs.WorkedSeats.{begins, worked-more}
 
 -- ---- where a search is at its end
 
 -- the fields by which a board is at its end
 abbrev pub over_by : (Rules → List Reply → View) → Problem → List Reply → Option Cell → Bool
 over_by shown problem replies aborted = is_some aborted || is_end (shown problem.rules replies).ask
-
--- the problem, the replies and the aborted cell are the same
-pub record KeepsSearch (b c : PlainBoard) : Type 0 where
-  pub problem : c.problem ≡ b.problem
-  pub replies : c.replies ≡ b.replies
-  pub aborted : c.aborted ≡ b.aborted
-
-pub search-lost : (b : PlainBoard) (t : Ticket) → KeepsSearch b (after_lost b t)
-unfolding after_lost with_loss
-search-lost b t = by (found_in b.live t)
-  where
-    by : (o : Option LiveTicket) → KeepsSearch b (with_end (with_loss b) b o)
-    by None = record { problem = refl; replies = refl; aborted = refl }
-    by (Some l) = record { problem = refl; replies = refl; aborted = refl }
-
-pub search-stop : (b : PlainBoard) → KeepsSearch b (after_stop b)
-unfolding after_stop
-search-stop b = by b.stopped
-  where
-    by : (stopped : Bool) → KeepsSearch b (if stopped then b else stopped_board b)
-    by true = record { problem = refl; replies = refl; aborted = refl }
-    by false = record { problem = refl; replies = refl; aborted = refl }
 
 -- a search that is at its end is asked for nothing, and another for something
 pub end-decides : (ask : Ask) → is_end ask ≡ true → ask ≡ End
@@ -87,7 +57,7 @@ end-decides End ends = refl
 
 module _ (shown : Rules → List Reply → View) where
   pub over-same : (b c : PlainBoard) → KeepsSearch b c → over_by shown c.problem c.replies c.aborted ≡ over_by shown b.problem b.replies b.aborted
-  over-same b c same = λ i. over_by shown (same.problem i) (same.replies i) (same.aborted i)
+  over-same b c same = λ i. over_by shown (same.added.problem i) (same.replies i) (same.aborted i)
 
   -- an ask whose run is needed isn't the end
   ask-needs : (b : PlainBoard) (place : ℕ) (cutoff : Micros) → verdict_on shown b ≡ verdict.Need place cutoff → is_end (ask_on shown b) ≡ false
@@ -142,19 +112,24 @@ module _ (shown : Rules → List Reply → View) where
 
 -- ---- the state of a drive between two turns
 
--- no ticket is live, the board isn't stopped, no fault is kept, and this was made so far
+-- the seat is at work, no ticket is live, the board isn't stopped, and this was made so far
 pub record IsUnderWay (program : Program) (board board' : BoardState) (seat seat' : SeatState) : Type 0 where
+  pub work : IsAtWork program seat seat'
   pub free : board'.live ≡ []
   pub going : board'.stopped ≡ false
-  pub sound : seat'.failed ≡ false
   pub made : HasMade program [] (plain board) (plain board') seat.told seat'.told seat.tickets seat'.tickets
 
 -- at the beginning
-pub underway-begin : (program : Program) (board : BoardState) (seat seat' : SeatState) → board.live ≡ [] → board.stopped ≡ false
+pub underway-begin : (program : Program) (board : BoardState) (seat seat' : SeatState) → MayDrive board seat
     → seat' ≡ record seat { failed = false; short = false } → IsUnderWay program board board seat seat'
-underway-begin program board seat seat' free going dropped =
-    let P : SeatState → Type 0 = λ s. IsUnderWay program board board seat s in
-    subst P (sym dropped) (record { free = free; going = going; sound = refl; made = made-none program (plain board) seat.told seat.tickets })
+underway-begin program board seat seat' may dropped =
+    let P : SeatState → Type 0 = λ s. HasMade program [] (plain board) (plain board) seat.told s.told seat.tickets s.tickets in
+    record {
+      work = begins program seat seat' may.idle dropped;
+      free = may.free;
+      going = may.going;
+      made = subst P (sym dropped) (made-none program (plain board) seat.told seat.tickets);
+    }
 
 -- a turn isn't idle then
 pub idle-never : (shown : Rules → List Reply → View) (program : Program) (board b : BoardState) (b' : PlainBoard) (seat s s' : SeatState)
@@ -162,26 +137,18 @@ pub idle-never : (shown : Rules → List Reply → View) (program : Program) (bo
 unfolding plain
 idle-never shown program board b b' seat s s' way stayed = stayed.busy (ap tickets_of way.free)
 
--- no fault is kept
-pub no-fault : (seat : SeatState) (P : Ticket → Type 0) → seat.failed ≡ false → IfSome (fault_of seat) P
-no-fault seat P sound =
-    let none : fault_of seat ≡ None = ap (λ f. if f then last_of seat.tickets else None) sound in
-    let Q : Option Ticket → Type 0 = λ o. IfSome o P in
-    subst Q (sym none) tt
-
--- the fault that is kept
-pub kept-fault : (seat : SeatState) (t : Ticket) → seat.failed ≡ true → last_of seat.tickets ≡ Some t → fault_of seat ≡ Some t
-kept-fault seat t failed last = ap (λ f. if f then last_of seat.tickets else None) failed ∙ last
-
 -- a ticket that was taken for the needed run, which the seat has as its last one
-pub record HasTaken (shown : Rules → List Reply → View) (program : Program) (board b : BoardState) (seat old s : SeatState) (t : Ticket) : Type 0 where
+pub record HasTaken (shown : Rules → List Reply → View) (program : Program) (board b : BoardState) (seat s : SeatState) (t : Ticket) : Type 0 where
+  pub counts : seat.told.faults ≤ s.told.faults
   pub made : HasMade program (t ∷ []) (plain board) (plain b) seat.told s.told seat.tickets s.tickets
+  pub taken : AreTaken (plain b)
   pub live : (plain b).live ≡ alone t
   pub going : (plain b).stopped ≡ false
   pub more : is_over shown b ≡ false
   pub asked : t.kind ≡ Asked
   pub last : last_of s.tickets ≡ Some t
-  pub sound : s.failed ≡ old.failed
+  pub sound : s.failed ≡ false
+  pub worked : (seat' : SeatState) → seat'.tickets ≡ s.tickets → MayHaveStarted program s.told seat'.told t.run → HasWorked program seat seat'
 
 module _ (shown : Rules → List Reply → View) where
   -- without a live ticket only the needed run is given
@@ -206,10 +173,10 @@ module _ (shown : Rules → List Reply → View) where
   -- a seat took a ticket while a drive was under way
   pub taken-so : (procedure : Rules → Table → Run) (truth : Option (Key → Outcome)) (program : Program) (board b0 b : BoardState) (seat s0 s : SeatState)
       → IsUnderWay program board b0 seat s0 → (took : TookTicket shown (plain b0) (plain b) s0 s) → BoardInvariant shown procedure truth b
-      → HasTaken shown program board b seat s0 s took.ticket
+      → HasTaken shown program board b seat s took.one.ticket
   unfolding plain
   taken-so procedure truth program board b0 b seat s0 s way took inv =
-      let t = took.ticket in
+      let t = took.one.ticket in
       let between = took.between in
       let free : between.live ≡ [] = none-live between.live (took.keeps.live ∙ ap tickets_of way.free) in
       let needed = needed-alone between t free took.given in
@@ -225,12 +192,18 @@ module _ (shown : Rules → List Reply → View) where
       let made = made-ticket program (plain board) seat.told s0.told seat.tickets s0.tickets between t asked_first before in
       let P : PlainBoard → Type 0 = λ c. HasMade program (t ∷ []) (plain board) c seat.told s0.told seat.tickets (s0.tickets ++ t ∷ []) in
       let Q : SeatState → Type 0 = λ x. HasMade program (t ∷ []) (plain board) (plain b) seat.told x.told seat.tickets x.tickets in
+      let told : s.told ≡ s0.told = ap (λ x. x.told) took.one.list in
       record {
-        made = subst Q (sym took.list) (subst P (sym after) made);
+        counts = omega (arith, way.work.counts, ap (λ x. x.faults) told);
+        taken = inv.taken;
+        made = subst Q (sym took.one.list) (subst P (sym after) made);
         live = live;
         going = ap (λ c. c.stopped) after ∙ open_there.going;
         more = ap (λ c. over_by shown c.problem c.replies c.aborted) after ∙ needs-more shown between needed.place needed.cutoff needed.stands;
         asked = kind-needed between t needed;
-        last = ap (λ x. last_of x.tickets) took.list ∙ last-more s0.tickets t;
-        sound = ap (λ x. x.failed) took.list;
+        last = took-last s0 s took.one;
+        sound = ap (λ x. x.failed) took.one.list ∙ way.work.sound;
+        worked = λ seat' list may.
+            let M : SpawnerTold → Type 0 = λ now. MayHaveStarted program now seat'.told t.run in
+            worked-more program seat s0 seat' t way.work.worked (list ∙ ap (λ x. x.tickets) took.one.list) (subst M told may);
       }

@@ -27,7 +27,7 @@ use Rattle.board_steps.specs.AgreeingBoards.{IsShown}
 use Rattle.board_steps.specs.BoardInvariant.{BoardInvariant}
 use Rattle.board_steps.specs.Boards.{BoardState, plain}
 use Rattle.board_steps.specs.declared.events.Event.{Event}
-use Rattle.board_steps.specs.declared.events.Event.TheVariants.{Advance, Take, Record, Lost, Mark, Killed, Stop, Resume}
+use Rattle.board_steps.specs.declared.events.Event.TheVariants.{Take}
 use Rattle.board_steps.specs.declared.tickets.Kind.{Kind}
 use Rattle.board_steps.specs.declared.tickets.Kind.TheVariants.{Asked}
 use Rattle.board_steps.specs.declared.tickets.Ticket.{Ticket}
@@ -71,14 +71,8 @@ order-last (x ∷ xs) ys order = order-last xs ys (IsNonDecreasingBy-drop (λ n.
 -- the places of events are those of the ones that took a ticket
 places-takes : (events : List Event) → places_taken events ≡ places_taken (filter is_take events)
 places-takes [] = refl
-places-takes (Advance ∷ events) = places-takes events
 places-takes (Take number kind cell cutoff asked_at ∷ events) = ap (λ ps. asked_at ∷ ps) (places-takes events)
-places-takes (Record number answer ∷ events) = places-takes events
-places-takes (Lost number ∷ events) = places-takes events
-places-takes (Mark number ∷ events) = places-takes events
-places-takes (Killed number ∷ events) = places-takes events
-places-takes (Stop ∷ events) = places-takes events
-places-takes (Resume ∷ events) = places-takes events
+places-takes (e ∷ events) = places-takes events
 
 -- those of tickets
 places-tickets : (tickets : List Ticket) → places_taken (map take_event tickets) ≡ map (λ t. t.place) tickets

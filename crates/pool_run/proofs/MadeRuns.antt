@@ -1,79 +1,26 @@
 -- What the tickets of a seat and the runs that a board records become by each event.
-use Rattle.std.proofs.Common.{ℕ, ◌≡◌, ◌==◌, ◌++◌, ◌&&◌, Bool, true, false, List, [], ◌∷◌, Some, None, All, filter, map, refl, sym, ap, subst, ◌∙◌, if◌then◌else◌}
-use Rattle.std.specs.Cmp.Lexicographic.{pointwise}
-use Rattle.std.specs.Str.{bytes_eq}
+use Rattle.std.proofs.Common.{◌≡◌, ◌==◌, ◌++◌, true, List, [], ◌∷◌, Some, None, All, filter, map, refl, sym, ap, subst, ◌∙◌, if◌then◌else◌}
 use Rattle.std.proofs.lemmas.Bool.{eq-eqb}
 use Rattle.std.proofs.lemmas.List.{append-nil, append_assoc, map-append}
 use Rattle.std.proofs.lemmas.List.Elements.{All-nil, All-push, filter-append}
-use Rattle.std.proofs.lemmas.Slice.Eq.{bytes_eq-Decides}
 use Rattle.objective.specs.declared.Answer.{Answer}
-use Rattle.wrapper_lines.specs.declared.runs.Key.{Key}
 use Rattle.wrapper_lines.specs.declared.runs.Program.{Program}
-use Rattle.wrapper_lines.specs.declared.runs.Setting.{Setting}
 use Rattle.outside.specs.ToldStates.{SpawnerTold}
-use Rattle.run_cache.specs.declared.cell.Cell.{Cell}
 use Rattle.board_steps.specs.Boards.{PlainBoard}
 use Rattle.board_steps.specs.declared.events.Event.{Event}
-use Rattle.board_steps.specs.declared.events.Event.TheVariants.{Advance, Take, Record, Lost, Mark, Killed, Stop, Resume}
-use Rattle.board_steps.specs.declared.tickets.Kind.{Kind}
-use Rattle.board_steps.specs.declared.tickets.Kind.TheVariants.{Asked, Ahead}
+use Rattle.board_steps.specs.declared.events.Event.TheVariants.{Record}
 use Rattle.board_steps.specs.declared.tickets.LiveTicket.{LiveTicket}
 use Rattle.board_steps.specs.declared.tickets.Ticket.{Ticket}
 use Rattle.board_steps.specs.JournalRuns.{run_of, runs_of, AreTaken}
 use Rattle.board_steps.specs.Ledgers.{take_event, unmarked}
-use Rattle.board_steps.specs.Steps.{with_answer, with_end, with_record, with_ticket, after_record}
-use Rattle.board_steps.specs.Tickets.{same_setting, same_key, same_cell, same_kind, same_ticket, live_at, without, if_same, found_in}
+use Rattle.board_steps.specs.Steps.{with_answer, with_end, with_loss, with_record, with_ticket, after_lost, after_record}
+use Rattle.board_steps.specs.Tickets.{live_at, without, if_same, found_in}
 use Rattle.board_steps.proofs.JournalRuns.{runs-other, runs-answer}
+use Rattle.board_steps.proofs.SameItself.{same_ticket-itself}
 use Rattle.pool_run.specs.Drives.{Answered, tickets_in, run_in, record_event, IsAskedTicket, HasMade}
 use Rattle.pool_run.specs.Starts.{HasStarted}
 use Rattle.pool_run.specs.Turns.{is_take, is_record, AddsNoRun}
 use Rattle.pool_run.proofs.StartedRuns.{started-none, started-then}
-
--- ---- a ticket is the same as itself
-
-bytes-itself : (text : List ℕ) → bytes_eq text text ≡ true
-bytes-itself text = (bytes_eq-Decides text text).1 refl
-
-and-both : (a b : Bool) → a ≡ true → b ≡ true → (a && b) ≡ true
-and-both true b one other = other
-and-both false b one other = one
-
-setting-itself : (s : Setting) → same_setting s s ≡ true
-setting-itself s = and-both (bytes_eq s.name s.name) (bytes_eq s.value s.value) (bytes-itself s.name) (bytes-itself s.value)
-
-settings-itself : (list : List Setting) → pointwise same_setting list list ≡ true
-settings-itself [] = refl
-settings-itself (s ∷ list) = and-both (same_setting s s) (pointwise same_setting list list) (setting-itself s) (settings-itself list)
-
-key-itself : (k : Key) → same_key k k ≡ true
-key-itself k =
-    let seeds = k.seed == k.seed in
-    let instances = bytes_eq k.instance k.instance in
-    let specifics = bytes_eq k.specifics k.specifics in
-    let one = and-both seeds instances (eq-eqb k.seed k.seed refl) (bytes-itself k.instance) in
-    let two = and-both (seeds && instances) specifics one (bytes-itself k.specifics) in
-    and-both (seeds && instances && specifics) (pointwise same_setting k.settings k.settings) two (settings-itself k.settings)
-
-kind-itself : (k : Kind) → same_kind k k ≡ true
-kind-itself Asked = refl
-kind-itself Ahead = refl
-
-cell-itself : (c : Cell) → same_cell c c ≡ true
-cell-itself c = and-both (bytes_eq c.config c.config) (c.place == c.place) (bytes-itself c.config) (eq-eqb c.place c.place refl)
-
-ticket-itself : (t : Ticket) → same_ticket t t ≡ true
-unfolding same_ticket
-ticket-itself t =
-    let numbers = t.number == t.number in
-    let places = t.place == t.place in
-    let kinds = same_kind t.kind t.kind in
-    let cells = same_cell t.cell t.cell in
-    let cutoffs = t.run.cutoff.0 == t.run.cutoff.0 in
-    let two = and-both numbers places (eq-eqb t.number t.number refl) (eq-eqb t.place t.place refl) in
-    let three = and-both (numbers && places) kinds two (kind-itself t.kind) in
-    let four = and-both (numbers && places && kinds) cells three (cell-itself t.cell) in
-    let five = and-both (numbers && places && kinds && cells) cutoffs four (eq-eqb t.run.cutoff.0 t.run.cutoff.0 refl) in
-    and-both (numbers && places && kinds && cells && cutoffs) (same_key t.run.key t.run.key) five (key-itself t.run.key)
 
 -- ---- a ticket that alone is live
 
@@ -89,33 +36,44 @@ alone-at t = ap (λ b. if b then Some (unmarked t) else None) (number-itself t)
 
 alone-found : (t : Ticket) → found_in (alone t) t ≡ Some (unmarked t)
 unfolding found_in
-alone-found t = ap (if_same t) (alone-at t) ∙ ap (λ b. if b then Some (unmarked t) else None) (ticket-itself t)
+alone-found t = ap (if_same t) (alone-at t) ∙ ap (λ b. if b then Some (unmarked t) else None) (same_ticket-itself t)
 
 alone-without : (t : Ticket) → without (alone t) t.number ≡ []
 unfolding without
 alone-without t = rw (number-itself t) refl
+
+-- its answer is recorded
+answer-alone : (b : PlainBoard) (t : Ticket) (answer : Answer) → b.live ≡ alone t → after_record b t answer ≡ with_answer b answer (unmarked t)
+unfolding after_record
+answer-alone b t answer live =
+    let found : found_in b.live t ≡ Some (unmarked t) = ap (λ ls. found_in ls t) live ∙ alone-found t in
+    ap (with_end (with_record b answer) b) found
+
+-- the board after that has no live ticket, and is stopped where it was before
+pub live-answered : (b : PlainBoard) (t : Ticket) (answer : Answer) → b.live ≡ alone t → (after_record b t answer).live ≡ []
+unfolding with_answer
+live-answered b t answer live =
+    ap (λ c. c.live) (answer-alone b t answer live) ∙ ap (λ ls. without ls t.number) live ∙ alone-without t
+
+pub stopped-answered : (b : PlainBoard) (t : Ticket) (answer : Answer) → b.live ≡ alone t → (after_record b t answer).stopped ≡ b.stopped
+unfolding with_answer
+stopped-answered b t answer live = ap (λ c. c.stopped) (answer-alone b t answer live)
+
+-- nor has the board after it was lost
+pub live-lost : (b : PlainBoard) (t : Ticket) → b.live ≡ alone t → (after_lost b t).live ≡ []
+unfolding after_lost with_loss
+live-lost b t live =
+    let found : found_in b.live t ≡ Some (unmarked t) = ap (λ ls. found_in ls t) live ∙ alone-found t in
+    ap (λ o. (with_end (with_loss b) b o).live) found ∙ ap (λ ls. without ls t.number) live ∙ alone-without t
 
 -- ---- runs of a journal
 
 -- events that record nothing leave the runs
 runs-still : (journal events : List Event) → filter is_record events ≡ [] → runs_of (journal ++ events) ≡ runs_of journal
 runs-still journal [] none = ap runs_of (append-nil journal)
-runs-still journal (Advance ∷ later) none =
-    ap runs_of (sym (append_assoc journal (Advance ∷ []) later)) ∙ runs-still (journal ++ Advance ∷ []) later none ∙ runs-other journal Advance refl
-runs-still journal (Take number kind cell cutoff asked_at ∷ later) none =
-    let e = Take number kind cell cutoff asked_at in
-    ap runs_of (sym (append_assoc journal (e ∷ []) later)) ∙ runs-still (journal ++ e ∷ []) later none ∙ runs-other journal e refl
 runs-still journal (Record number answer ∷ later) none = absurd (cc)
-runs-still journal (Lost number ∷ later) none =
-    ap runs_of (sym (append_assoc journal (Lost number ∷ []) later)) ∙ runs-still (journal ++ Lost number ∷ []) later none ∙ runs-other journal (Lost number) refl
-runs-still journal (Mark number ∷ later) none =
-    ap runs_of (sym (append_assoc journal (Mark number ∷ []) later)) ∙ runs-still (journal ++ Mark number ∷ []) later none ∙ runs-other journal (Mark number) refl
-runs-still journal (Killed number ∷ later) none =
-    ap runs_of (sym (append_assoc journal (Killed number ∷ []) later)) ∙ runs-still (journal ++ Killed number ∷ []) later none ∙ runs-other journal (Killed number) refl
-runs-still journal (Stop ∷ later) none =
-    ap runs_of (sym (append_assoc journal (Stop ∷ []) later)) ∙ runs-still (journal ++ Stop ∷ []) later none ∙ runs-other journal Stop refl
-runs-still journal (Resume ∷ later) none =
-    ap runs_of (sym (append_assoc journal (Resume ∷ []) later)) ∙ runs-still (journal ++ Resume ∷ []) later none ∙ runs-other journal Resume refl
+runs-still journal (e ∷ later) none =
+    ap runs_of (sym (append_assoc journal (e ∷ []) later)) ∙ runs-still (journal ++ e ∷ []) later none ∙ runs-other journal e refl
 
 -- ---- what was made so far
 
@@ -172,12 +130,6 @@ module _ (program : Program) (first : PlainBoard) (told told' : SpawnerTold) (ti
         problem = made.problem;
       }
 
-  answer-alone : (b : PlainBoard) (t : Ticket) (answer : Answer) → b.live ≡ alone t → after_record b t answer ≡ with_answer b answer (unmarked t)
-  unfolding after_record
-  answer-alone b t answer live =
-      let found : found_in b.live t ≡ Some (unmarked t) = ap (λ ls. found_in ls t) live ∙ alone-found t in
-      ap (with_end (with_record b answer) b) found
-
   -- the answer of the only live ticket is recorded
   made-answer_of : (b : PlainBoard) (t : Ticket) (answer : Answer) (now : SpawnerTold) → b.live ≡ alone t → AreTaken b
       → HasStarted program told' now (t.run ∷ []) → HasMade program (t ∷ []) first b told told' tickets tickets'
@@ -211,13 +163,3 @@ module _ (program : Program) (first : PlainBoard) (told told' : SpawnerTold) (ti
   made-answer b t answer now live taken started made =
       let P : PlainBoard → Type 0 = λ c. HasMade program [] first c told now tickets tickets' in
       subst P (sym (answer-alone b t answer live)) (made-answer_of b t answer now live taken started made)
-
-  -- the board after that has no live ticket, and is stopped where it was before
-  pub live-answered : (b : PlainBoard) (t : Ticket) (answer : Answer) → b.live ≡ alone t → (after_record b t answer).live ≡ []
-  unfolding with_answer
-  live-answered b t answer live =
-      ap (λ c. c.live) (answer-alone b t answer live) ∙ ap (λ ls. without ls t.number) live ∙ alone-without t
-
-  pub stopped-answered : (b : PlainBoard) (t : Ticket) (answer : Answer) → b.live ≡ alone t → (after_record b t answer).stopped ≡ b.stopped
-  unfolding with_answer
-  stopped-answered b t answer live = ap (λ c. c.stopped) (answer-alone b t answer live)

@@ -1,5 +1,5 @@
 -- What the steps of a turn keep of a board, and where it stands after them.
-use Rattle.std.proofs.Common.{ℕ, ◌≡◌, ◌++◌, ◌&&◌, not, Bool, true, false, List, [], ◌∷◌, Option, Some, None, filter, refl, sym, ap, subst, ◌∙◌, if◌then◌else◌}
+use Rattle.std.proofs.Common.{ℕ, ◌≡◌, ◌++◌, ◌&&◌, ◌⊎◌, inl, inr, not, Bool, true, false, List, [], ◌∷◌, Option, Some, None, filter, refl, sym, ap, subst, ◌∙◌, if◌then◌else◌}
 use Rattle.std.specs.Cmp.Lexicographic.{pointwise}
 use Rattle.std.specs.List.{find}
 use Rattle.std.proofs.lemmas.List.{append-nil, append_assoc}
@@ -17,7 +17,10 @@ use Rattle.board_steps.specs.declared.answers.Phase.{Phase}
 use Rattle.board_steps.specs.declared.answers.Phase.TheVariants as phase
 use Rattle.board_steps.specs.declared.answers.Taken.{Taken}
 use Rattle.board_steps.specs.declared.answers.Taken.TheVariants as taken
+use Rattle.board_steps.specs.declared.events.Event.{Event}
 use Rattle.board_steps.specs.declared.events.Event.TheVariants.{Advance, Lost, Mark, Stop}
+use Rattle.board_steps.specs.declared.tickets.Kind.{Kind}
+use Rattle.board_steps.specs.declared.tickets.Kind.TheVariants.{Asked, Ahead}
 use Rattle.board_steps.specs.declared.tickets.LiveTicket.{LiveTicket}
 use Rattle.board_steps.specs.declared.tickets.Ticket.{Ticket}
 use Rattle.board_steps.specs.Numbering.{tickets_of}
@@ -25,8 +28,9 @@ use Rattle.board_steps.specs.Phases.{asked_cell, phase_of, verdict_on, wishes_on
 use Rattle.board_steps.specs.Steps.{with_taken, after_take, same_wish, with_reply, with_wishes, with_abort, advanced_by, advanced_to, advanced_on, after_advance, is_unwanted, after_mark, stopped_board, after_stop, with_end, with_loss, after_lost, is_free, taken_ahead, taken_by, taken_on}
 use Rattle.board_steps.specs.Tickets.{mark_event, mark_events, has_ticket, found_in}
 use Rattle.board_steps.proofs.LiveTickets.{tickets-marked, tickets-marked_if}
+use Rattle.pool_run.specs.RunEnds.{stopped_for}
 use Rattle.pool_run.specs.Seats.{SeatState}
-use Rattle.pool_run.specs.Turns.{is_take, is_record, AddsNoRun, KeepsTickets, AdvancedTo, TookTicket, StayedIdle, CameToEnd, RanShort, needs_run, is_done}
+use Rattle.pool_run.specs.Turns.{is_take, is_record, AddsNoRun, KeepsTickets, KeepsGoing, AdvancedTo, TookTicket, StayedIdle, RanShort, needs_run, is_done}
 
 -- ---- no run is added
 
@@ -35,7 +39,7 @@ adds-none : (b : PlainBoard) → AddsNoRun b b
 adds-none b = record { events = []; journal = sym (append-nil b.journal); takes = refl; records = refl; problem = refl }
 
 -- one change after another
-pub adds-then : (a b c : PlainBoard) → AddsNoRun a b → AddsNoRun b c → AddsNoRun a c
+adds-then : (a b c : PlainBoard) → AddsNoRun a b → AddsNoRun b c → AddsNoRun a c
 adds-then a b c one other = record {
   events = one.events ++ other.events;
   journal = other.journal ∙ ap (λ es. es ++ other.events) one.journal ∙ append_assoc a.journal one.events other.events;
@@ -44,36 +48,72 @@ adds-then a b c one other = record {
   problem = other.problem ∙ one.problem;
 }
 
+-- ---- besides, the search is the same
+
+pub record KeepsSearch (before after : PlainBoard) : Type 0 where
+  pub added : AddsNoRun before after
+  pub replies : after.replies ≡ before.replies
+  pub aborted : after.aborted ≡ before.aborted
+
+search-none : (b : PlainBoard) → KeepsSearch b b
+search-none b = record { added = adds-none b; replies = refl; aborted = refl }
+
 -- a ticket is lost
-pub adds-lost : (b : PlainBoard) (t : Ticket) → AddsNoRun b (after_lost b t)
+search-lost : (b : PlainBoard) (t : Ticket) → KeepsSearch b (after_lost b t)
 unfolding after_lost with_loss
-adds-lost b t = by (found_in b.live t)
+search-lost b t = by (found_in b.live t)
   where
-    by : (o : Option LiveTicket) → AddsNoRun b (with_end (with_loss b) b o)
-    by None = adds-none b
-    by (Some l) = record { events = Lost l.ticket.number ∷ []; journal = refl; takes = refl; records = refl; problem = refl }
+    by : (o : Option LiveTicket) → KeepsSearch b (with_end (with_loss b) b o)
+    by None = search-none b
+    by (Some l) = record {
+      added = record { events = Lost l.ticket.number ∷ []; journal = refl; takes = refl; records = refl; problem = refl };
+      replies = refl;
+      aborted = refl;
+    }
 
 -- the board is stopped
-pub adds-stop : (b : PlainBoard) → AddsNoRun b (after_stop b)
+search-stop : (b : PlainBoard) → KeepsSearch b (after_stop b)
 unfolding after_stop
-adds-stop b = by b.stopped
+search-stop b = by b.stopped
   where
-    by : (stopped : Bool) → AddsNoRun b (if stopped then b else stopped_board b)
-    by true = adds-none b
-    by false = record { events = Stop ∷ []; journal = refl; takes = refl; records = refl; problem = refl }
+    by : (stopped : Bool) → KeepsSearch b (if stopped then b else stopped_board b)
+    by true = search-none b
+    by false = record {
+      added = record { events = Stop ∷ []; journal = refl; takes = refl; records = refl; problem = refl };
+      replies = refl;
+      aborted = refl;
+    }
+
+-- a ticket is given up
+pub search-given_up : (b : PlainBoard) (t : Ticket) → KeepsSearch b (stopped_for t.kind (after_lost b t))
+search-given_up b t = by t.kind
+  where
+    lost : PlainBoard
+    lost = after_lost b t
+
+    by : (kind : Kind) → KeepsSearch b (stopped_for kind lost)
+    by Ahead = search-lost b t
+    by Asked =
+        let one = search-lost b t in
+        let other = search-stop lost in
+        record {
+          added = adds-then b lost (after_stop lost) one.added other.added;
+          replies = other.replies ∙ one.replies;
+          aborted = other.aborted ∙ one.aborted;
+        }
 
 -- ---- the same tickets are live
 
-pub keeps-none : (b : PlainBoard) → KeepsTickets b b
+keeps-none : (b : PlainBoard) → KeepsTickets b b
 keeps-none b = record { added = adds-none b; live = refl }
 
-pub keeps-then : (a b c : PlainBoard) → KeepsTickets a b → KeepsTickets b c → KeepsTickets a c
+keeps-then : (a b c : PlainBoard) → KeepsTickets a b → KeepsTickets b c → KeepsTickets a c
 keeps-then a b c one other = record { added = adds-then a b c one.added other.added; live = other.live ∙ one.live }
 
 -- the board is stopped
 pub keeps-stop : (b : PlainBoard) → KeepsTickets b (after_stop b)
 unfolding after_stop
-keeps-stop b = record { added = adds-stop b; live = by b.stopped }
+keeps-stop b = record { added = (search-stop b).added; live = by b.stopped }
   where
     by : (stopped : Bool) → tickets_of (if stopped then b else stopped_board b).live ≡ tickets_of b.live
     by true = refl
@@ -88,38 +128,36 @@ stop-stops b = by b.stopped refl
     by true is = is
     by false is = refl
 
--- marks take no ticket and record nothing
-mark-adds : (to_mark : Bool) (number : ℕ) → (filter is_take (if to_mark then Mark number ∷ [] else []) ≡ []) × (filter is_record (if to_mark then Mark number ∷ [] else []) ≡ [])
-mark-adds true number = (refl, refl)
-mark-adds false number = (refl, refl)
+-- ---- and whether it is stopped
 
-marks-take : (p : LiveTicket → Bool) (live : List LiveTicket) → filter is_take (mark_events p live) ≡ []
-marks-take p [] = refl
-marks-take p (l ∷ live) =
-    filter-append is_take (mark_event p l) (mark_events p live)
-    ∙ (λ i. (mark-adds (p l && not l.marked) l.ticket.number).0 i ++ marks-take p live i)
+pub going-none : (b : PlainBoard) → KeepsGoing b b
+going-none b = record { keeps = keeps-none b; going = refl }
 
-marks-record : (p : LiveTicket → Bool) (live : List LiveTicket) → filter is_record (mark_events p live) ≡ []
-marks-record p [] = refl
-marks-record p (l ∷ live) =
-    filter-append is_record (mark_event p l) (mark_events p live)
-    ∙ (λ i. (mark-adds (p l && not l.marked) l.ticket.number).1 i ++ marks-record p live i)
+going-then : (a b c : PlainBoard) → KeepsGoing a b → KeepsGoing b c → KeepsGoing a c
+going-then a b c one other = record { keeps = keeps-then a b c one.keeps other.keeps; going = other.going ∙ one.going }
+
+-- marks don't pass a test that no mark passes
+marks-fail : (test : Event → Bool) → ((number : ℕ) → test (Mark number) ≡ false) → (p : LiveTicket → Bool) (live : List LiveTicket)
+    → filter test (mark_events p live) ≡ []
+marks-fail test none p [] = refl
+marks-fail test none p (l ∷ live) =
+    filter-append test (mark_event p l) (mark_events p live) ∙ (λ i. one (p l && not l.marked) l.ticket.number i ++ marks-fail test none p live i)
+  where
+    one : (to_mark : Bool) (number : ℕ) → filter test (if to_mark then Mark number ∷ [] else []) ≡ []
+    one true number = ap (λ passes. if passes then Mark number ∷ [] else []) (none number)
+    one false number = refl
 
 -- what an advance comes to, and where the board stands after it
 abbrev pub StandsAfter : Advanced → Phase → Type 0
 StandsAfter advanced.Moved p = Unit {0}
 StandsAfter advanced.Waits p = (needs_run p ≡ true) × (is_done p ≡ false)
-StandsAfter advanced.Ended p = (needs_run p ≡ false) × (is_done p ≡ true)
-StandsAfter advanced.Aborted p = (needs_run p ≡ false) × (is_done p ≡ true)
-StandsAfter advanced.Stopped p = (needs_run p ≡ false) × (is_done p ≡ true)
+StandsAfter a p = (needs_run p ≡ false) × (is_done p ≡ true)
 
 -- what a take comes to where a run is needed
 abbrev pub IsTakeOfNeed : PlainBoard → Taken → Type 0
 IsTakeOfNeed b (taken.Ticket t) = Unit {0}
 IsTakeOfNeed b taken.Idle = tickets_of b.live ≡ [] → ⊥
-IsTakeOfNeed b taken.Decided = ⊥
-IsTakeOfNeed b taken.Ended = ⊥
-IsTakeOfNeed b taken.Stopped = ⊥
+IsTakeOfNeed b r = ⊥
 
 -- live tickets without a ticket are none
 pub none-live : (live : List LiveTicket) → tickets_of live ≡ [] → live ≡ []
@@ -128,73 +166,56 @@ none-live (l ∷ live) none = absurd (cc)
 
 module _ (shown : Rules → List Reply → View) where
   -- live tickets are marked
-  pub keeps-mark : (b : PlainBoard) → KeepsTickets b (after_mark shown b)
+  going-mark : (b : PlainBoard) → KeepsGoing b (after_mark shown b)
   unfolding after_mark
-  keeps-mark b = record {
-    added = record {
-      events = mark_events (is_unwanted shown b) b.live;
-      journal = refl;
-      takes = marks-take (is_unwanted shown b) b.live;
-      records = marks-record (is_unwanted shown b) b.live;
-      problem = refl;
+  going-mark b = record {
+    keeps = record {
+      added = record {
+        events = mark_events (is_unwanted shown b) b.live;
+        journal = refl;
+        takes = marks-fail is_take (λ number. refl) (is_unwanted shown b) b.live;
+        records = marks-fail is_record (λ number. refl) (is_unwanted shown b) b.live;
+        problem = refl;
+      };
+      live = tickets-marked_if (is_unwanted shown b) b.live;
     };
-    live = tickets-marked_if (is_unwanted shown b) b.live;
+    going = refl;
   }
 
-  -- marking leaves where the board stands, and that it isn't stopped
-  pub phase-marked : (b : PlainBoard) → phase_of shown (after_mark shown b) ≡ phase_of shown b
+  -- that leaves where the board stands
+  phase-marked : (b : PlainBoard) → phase_of shown (after_mark shown b) ≡ phase_of shown b
   unfolding after_mark phase_of verdict_on
   phase-marked b = refl
 
-  pub stopped-marked : (b : PlainBoard) → (after_mark shown b).stopped ≡ b.stopped
-  unfolding after_mark
-  stopped-marked b = refl
+  -- an event of an advance
+  advances : (b c : PlainBoard) → c.journal ≡ b.journal ++ Advance ∷ [] → c.problem ≡ b.problem → c.live ≡ b.live → c.stopped ≡ b.stopped → KeepsGoing b c
+  advances b c journal problem live going = record {
+    keeps = record {
+      added = record { events = Advance ∷ []; journal = journal; takes = refl; records = refl; problem = problem };
+      live = ap tickets_of live;
+    };
+    going = going;
+  }
 
-  keeps-wishes : (b : PlainBoard) → KeepsTickets b (with_wishes shown b)
+  going-wishes : (b : PlainBoard) → KeepsGoing b (with_wishes shown b)
   unfolding with_wishes
-  keeps-wishes b = by (pointwise same_wish b.wishes (wishes_on shown b))
+  going-wishes b = by (pointwise same_wish b.wishes (wishes_on shown b))
     where
-      by : (same : Bool) → KeepsTickets b (if same then b else record b { wishes = wishes_on shown b; journal = b.journal ++ Advance ∷ [] })
-      by true = keeps-none b
-      by false = record { added = record { events = Advance ∷ []; journal = refl; takes = refl; records = refl; problem = refl }; live = refl }
+      by : (same : Bool) → KeepsGoing b (if same then b else record b { wishes = wishes_on shown b; journal = b.journal ++ Advance ∷ [] })
+      by true = going-none b
+      by false = advances b (record b { wishes = wishes_on shown b; journal = b.journal ++ Advance ∷ [] }) refl refl refl refl
 
-  keeps-advanced : (b : PlainBoard) (p : Phase) → KeepsTickets b (advanced_by shown b p)
+  going-by : (b : PlainBoard) (p : Phase) → KeepsGoing b (advanced_by shown b p)
   unfolding with_reply with_abort
-  keeps-advanced b phase.Stopped = keeps-none b
-  keeps-advanced b phase.Aborted = keeps-none b
-  keeps-advanced b (phase.Open (verdict.Reply r)) =
-      record { added = record { events = Advance ∷ []; journal = refl; takes = refl; records = refl; problem = refl }; live = refl }
-  keeps-advanced b (phase.Open (verdict.Need place cutoff)) = keeps-wishes b
-  keeps-advanced b (phase.Open (verdict.Aborted place)) =
-      record { added = record { events = Advance ∷ []; journal = refl; takes = refl; records = refl; problem = refl }; live = refl }
-  keeps-advanced b (phase.Open verdict.Ended) = keeps-none b
+  going-by b (phase.Open (verdict.Reply r)) = advances b (with_reply shown b r) refl refl refl refl
+  going-by b (phase.Open (verdict.Need place cutoff)) = going-wishes b
+  going-by b (phase.Open (verdict.Aborted place)) = advances b (with_abort shown b place) refl refl refl refl
+  going-by b p = going-none b
 
   -- the board advances
-  pub keeps-advance : (b : PlainBoard) → KeepsTickets b (after_advance shown b)
+  going-advance : (b : PlainBoard) → KeepsGoing b (after_advance shown b)
   unfolding after_advance
-  keeps-advance b = keeps-advanced b (phase_of shown b)
-
-  stopped-wishes : (b : PlainBoard) → (with_wishes shown b).stopped ≡ b.stopped
-  unfolding with_wishes
-  stopped-wishes b = by (pointwise same_wish b.wishes (wishes_on shown b))
-    where
-      by : (same : Bool) → (if same then b else record b { wishes = wishes_on shown b; journal = b.journal ++ Advance ∷ [] }).stopped ≡ b.stopped
-      by true = refl
-      by false = refl
-
-  stopped-by : (b : PlainBoard) (p : Phase) → (advanced_by shown b p).stopped ≡ b.stopped
-  unfolding with_reply with_abort
-  stopped-by b phase.Stopped = refl
-  stopped-by b phase.Aborted = refl
-  stopped-by b (phase.Open (verdict.Reply r)) = refl
-  stopped-by b (phase.Open (verdict.Need place cutoff)) = stopped-wishes b
-  stopped-by b (phase.Open (verdict.Aborted place)) = refl
-  stopped-by b (phase.Open verdict.Ended) = refl
-
-  -- an advance neither stops a board nor lets it go on
-  pub stopped-advance : (b : PlainBoard) → (after_advance shown b).stopped ≡ b.stopped
-  unfolding after_advance
-  stopped-advance b = stopped-by b (phase_of shown b)
+  going-advance b = going-by b (phase_of shown b)
 
   -- other wishes leave where the board stands
   phase-wishes : (b : PlainBoard) → phase_of shown (with_wishes shown b) ≡ phase_of shown b
@@ -215,17 +236,15 @@ module _ (shown : Rules → List Reply → View) where
       by false = (refl, refl)
 
   stands-by : (b : PlainBoard) (p : Phase) → phase_of shown b ≡ p → StandsAfter (advanced_to p) (phase_of shown (advanced_by shown b p))
-  stands-by b phase.Stopped is = (ap needs_run is, ap is_done is)
-  stands-by b phase.Aborted is = (ap needs_run is, ap is_done is)
   stands-by b (phase.Open (verdict.Reply r)) is = tt
   stands-by b (phase.Open (verdict.Need place cutoff)) is =
       let same = phase-wishes b ∙ is in
       (ap needs_run same, ap is_done same)
   stands-by b (phase.Open (verdict.Aborted place)) is = phase-abort b place
-  stands-by b (phase.Open verdict.Ended) is = (ap needs_run is, ap is_done is)
+  stands-by b p is = (ap needs_run is, ap is_done is)
 
   -- where the board stands after an advance that came to this
-  pub stands-after : (b c : PlainBoard) (a : Advanced) → a ≡ advanced_on shown b → c ≡ after_advance shown b → StandsAfter a (phase_of shown c)
+  stands-after : (b c : PlainBoard) (a : Advanced) → a ≡ advanced_on shown b → c ≡ after_advance shown b → StandsAfter a (phase_of shown c)
   unfolding advanced_on after_advance
   stands-after b c a came is =
       subst (λ x. StandsAfter x (phase_of shown c)) (sym came)
@@ -248,94 +267,95 @@ module _ (shown : Rules → List Reply → View) where
 
   need-by : (b : PlainBoard) (p : Phase) → needs_run p ≡ true → IsTakeOfNeed b (taken_by shown b p)
   unfolding has_ticket
-  need-by b phase.Stopped needs = absurd (let e : false ≡ true = needs in cc)
-  need-by b phase.Aborted needs = absurd (let e : false ≡ true = needs in cc)
-  need-by b (phase.Open (verdict.Reply r)) needs = absurd (let e : false ≡ true = needs in cc)
   need-by b (phase.Open (verdict.Need place cutoff)) needs =
       need-beside b (asked_cell shown b place) _ (has_ticket b.live (asked_cell shown b place)) refl
-  need-by b (phase.Open (verdict.Aborted place)) needs = absurd (let e : false ≡ true = needs in cc)
-  need-by b (phase.Open verdict.Ended) needs = absurd (let e : false ≡ true = needs in cc)
+  need-by b p needs = absurd (let e : false ≡ true = needs in cc)
 
-  -- what a take comes to where a run is needed
-  pub take-needed : (b : PlainBoard) (r : Taken) → needs_run (phase_of shown b) ≡ true → r ≡ taken_on shown b → IsTakeOfNeed b r
+  take-needed : (b : PlainBoard) (r : Taken) → needs_run (phase_of shown b) ≡ true → r ≡ taken_on shown b → IsTakeOfNeed b r
   unfolding taken_on
   take-needed b r needs is = subst (IsTakeOfNeed b) (sym is) (need-by b (phase_of shown b) needs)
 
   -- ---- the parts of a turn
 
   -- one more advance
-  pub keeps-more : (a b c : PlainBoard) → KeepsTickets a b → c ≡ after_advance shown b → KeepsTickets a c
-  keeps-more a b c keeps is = keeps-then a b c keeps (subst (KeepsTickets b) (sym is) (keeps-advance b))
-
-  pub going-more : (a b c : PlainBoard) → b.stopped ≡ a.stopped → c ≡ after_advance shown b → c.stopped ≡ a.stopped
-  going-more a b c going is = ap (λ x. x.stopped) is ∙ stopped-advance b ∙ going
+  pub going-more : (a b c : PlainBoard) → KeepsGoing a b → c ≡ after_advance shown b → KeepsGoing a c
+  going-more a b c keeps is = going-then a b c keeps (subst (KeepsGoing b) (sym is) (going-advance b))
 
   -- the last advance
-  pub advanced-so : (a b c : PlainBoard) (x y : Advanced) (needed : Bool) → KeepsTickets a b → b.stopped ≡ a.stopped → x ≡ advanced_on shown b
-      → c ≡ after_advance shown b → x ≡ y → ((p : Phase) → StandsAfter y p → (needs_run p ≡ needed) × (is_done p ≡ not needed))
-      → AdvancedTo shown needed a c
-  advanced-so a b c x y needed keeps going came is same stands =
+  pub advanced-so : (a b c : PlainBoard) (x y : Advanced) (needed : Bool) → KeepsGoing a b → x ≡ advanced_on shown b → c ≡ after_advance shown b → x ≡ y
+      → ((p : Phase) → StandsAfter y p → (needs_run p ≡ needed) × (is_done p ≡ not needed)) → AdvancedTo shown needed a c
+  advanced-so a b c x y needed keeps came is same stands =
       let P : Advanced → Type 0 = λ z. StandsAfter z (phase_of shown c) in
       let both = stands (phase_of shown c) (subst P same (stands-after b c x came is)) in
-      record { keeps = keeps-more a b c keeps is; going = going-more a b c going is; needs = both.0; done = both.1 }
+      record { keeps = going-more a b c keeps is; needs = both.0; done = both.1 }
+
+  -- it ended there
+  pub advanced-over : (a b c : PlainBoard) (x : Advanced) → KeepsGoing a b → x ≡ advanced_on shown b → c ≡ after_advance shown b
+      → (x ≡ advanced.Ended) ⊎ ((x ≡ advanced.Aborted) ⊎ (x ≡ advanced.Stopped)) → AdvancedTo shown false a c
+  advanced-over a b c x keeps came is which = by which
+    where
+      by : (x ≡ advanced.Ended) ⊎ ((x ≡ advanced.Aborted) ⊎ (x ≡ advanced.Stopped)) → AdvancedTo shown false a c
+      by (inl e) = advanced-so a b c x advanced.Ended false keeps came is e (λ p stands. stands)
+      by (inr (inl e)) = advanced-so a b c x advanced.Aborted false keeps came is e (λ p stands. stands)
+      by (inr (inr e)) = advanced-so a b c x advanced.Stopped false keeps came is e (λ p stands. stands)
 
   -- marks after the advances
-  pub keeps-marked : (a b c : PlainBoard) (needed : Bool) → AdvancedTo shown needed a b → c ≡ after_mark shown b → KeepsTickets a c
-  keeps-marked a b c needed to is = keeps-then a b c to.keeps (subst (KeepsTickets b) (sym is) (keeps-mark b))
+  pub marked-so : (a b c : PlainBoard) (needed : Bool) → AdvancedTo shown needed a b → c ≡ after_mark shown b → AdvancedTo shown needed a c
+  marked-so a b c needed to is =
+      let stands : phase_of shown c ≡ phase_of shown b = ap (phase_of shown) is ∙ phase-marked b in
+      record {
+        keeps = going-then a b c to.keeps (subst (KeepsGoing b) (sym is) (going-mark b));
+        needs = ap needs_run stands ∙ to.needs;
+        done = ap is_done stands ∙ to.done;
+      }
 
-  phase-then : (b c : PlainBoard) → c ≡ after_mark shown b → phase_of shown c ≡ phase_of shown b
-  phase-then b c is = ap (phase_of shown) is ∙ phase-marked b
+  -- what a take comes to then, where a run is needed
+  need-so : (a b : PlainBoard) (needed : Bool) (r x : Taken) → AdvancedTo shown needed a b → needed ≡ true → r ≡ taken_on shown b → r ≡ x → IsTakeOfNeed b x
+  need-so a b needed r x to some came same = subst (IsTakeOfNeed b) same (take-needed b r (to.needs ∙ some) came)
 
-  -- no run is needed
-  pub came-so : (a b c : PlainBoard) (needed : Bool) (seat : SeatState) → AdvancedTo shown needed a b → c ≡ after_mark shown b → needed ≡ false
-      → CameToEnd shown a c seat seat
-  came-so a b c needed seat to is none = record {
-    keeps = keeps-marked a b c needed to is;
-    going = ap (λ x. x.stopped) is ∙ stopped-marked b ∙ to.going;
-    done = ap is_done (phase-then b c is) ∙ to.done ∙ ap not none;
-    same = refl;
-  }
-
-  -- what a take comes to after the advances and the marks, where a run is needed
-  pub need-so : (a b c : PlainBoard) (needed : Bool) (r x : Taken) → AdvancedTo shown needed a b → c ≡ after_mark shown b → needed ≡ true
-      → r ≡ taken_on shown c → r ≡ x → IsTakeOfNeed c x
-  need-so a b c needed r x to is some came same =
-      subst (IsTakeOfNeed c) same (take-needed c r (ap needs_run (phase-then b c is) ∙ to.needs ∙ some) came)
+  -- a ticket is given, or the needed run is being made
+  pub need-never : (a b : PlainBoard) (needed : Bool) (r : Taken) → AdvancedTo shown needed a b → needed ≡ true → r ≡ taken_on shown b
+      → (r ≡ taken.Decided) ⊎ ((r ≡ taken.Ended) ⊎ (r ≡ taken.Stopped)) → ⊥
+  need-never a b needed r to some came which = by which
+    where
+      by : (r ≡ taken.Decided) ⊎ ((r ≡ taken.Ended) ⊎ (r ≡ taken.Stopped)) → ⊥
+      by (inl e) = need-so a b needed r taken.Decided to some came e
+      by (inr (inl e)) = need-so a b needed r taken.Ended to some came e
+      by (inr (inr e)) = need-so a b needed r taken.Stopped to some came e
 
   -- a ticket was given
-  pub took-so : (a b c d : PlainBoard) (needed : Bool) (r : Taken) (t : Ticket) (seat seat' : SeatState) → AdvancedTo shown needed a b → c ≡ after_mark shown b
-      → r ≡ taken_on shown c → r ≡ taken.Ticket t → d ≡ after_take shown c → seat' ≡ record seat { tickets = seat.tickets ++ t ∷ [] }
-      → TookTicket shown a d seat seat'
+  pub took-so : (a b c : PlainBoard) (needed : Bool) (r : Taken) (seat seat' : SeatState) (t : Ticket) → AdvancedTo shown needed a b
+      → r ≡ taken_on shown b → r ≡ taken.Ticket t → c ≡ after_take shown b → seat' ≡ record seat { tickets = seat.tickets ++ t ∷ [] }
+      → TookTicket shown a c seat seat'
   unfolding after_take
-  took-so a b c d needed r t seat seat' to is came same after list = record {
-    ticket = t;
-    between = c;
-    keeps = keeps-marked a b c needed to is;
+  took-so a b c needed r seat seat' t to came same after list = record {
+    one = record { ticket = t; list = list };
+    between = b;
+    keeps = to.keeps.keeps;
     given = sym came ∙ same;
-    after = after ∙ ap (with_taken c) (sym came ∙ same);
-    list = list;
+    after = after ∙ ap (with_taken b) (sym came ∙ same);
   }
 
   -- none was
-  pub idle-so : (a b c d : PlainBoard) (needed : Bool) (r : Taken) (seat seat' : SeatState) → AdvancedTo shown needed a b → c ≡ after_mark shown b → needed ≡ true
-      → r ≡ taken_on shown c → r ≡ taken.Idle → d ≡ after_take shown c → seat' ≡ seat → StayedIdle shown a d seat seat'
+  pub idle-so : (a b c : PlainBoard) (needed : Bool) (r : Taken) (seat seat' : SeatState) → AdvancedTo shown needed a b → needed ≡ true
+      → r ≡ taken_on shown b → r ≡ taken.Idle → c ≡ after_take shown b → seat' ≡ seat → StayedIdle shown a c seat seat'
   unfolding after_take
-  idle-so a b c d needed r seat seat' to is some came same after list =
-      let keeps = keeps-marked a b c needed to is in
-      let still : d ≡ c = after ∙ ap (with_taken c) (sym came ∙ same) in
+  idle-so a b c needed r seat seat' to some came same after list =
+      let still : c ≡ b = after ∙ ap (with_taken b) (sym came ∙ same) in
       record {
-        keeps = subst (KeepsTickets a) (sym still) keeps;
-        busy = λ none. need-so a b c needed r taken.Idle to is some came same (keeps.live ∙ none);
+        keeps = subst (KeepsTickets a) (sym still) to.keeps.keeps;
+        none = ap (taken_on shown) still ∙ sym came ∙ same;
+        busy = λ none. need-so a b needed r taken.Idle to some came same (to.keeps.keeps.live ∙ none);
         same = list;
       }
 
   -- there was no memory
-  pub short-so : (a b c : PlainBoard) (seat now seat' : SeatState) → KeepsTickets a b → c ≡ after_stop b → now ≡ seat → seat' ≡ record now { short = true }
+  pub short-so : (a b c : PlainBoard) (seat now seat' : SeatState) → KeepsGoing a b → c ≡ after_stop b → now ≡ seat → seat' ≡ record now { short = true }
       → RanShort shown a c seat seat'
   short-so a b c seat now seat' keeps is same noted =
       let short : SeatState → SeatState = λ s. record s { short = true } in
       record {
-        keeps = keeps-then a b c keeps (subst (KeepsTickets b) (sym is) (keeps-stop b));
+        keeps = keeps-then a b c keeps.keeps (subst (KeepsTickets b) (sym is) (keeps-stop b));
         stopped = ap (λ x. x.stopped) is ∙ stop-stops b;
         noted = noted ∙ ap short same;
       }

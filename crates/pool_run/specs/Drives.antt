@@ -1,5 +1,5 @@
 -- What a seat that drives a board adds to the journal and to its list of tickets, and what that tells.
-use Rattle.std.specs.Prelude.{◌≡◌, ◌≤◌, ◌++◌, ◌||◌, Bool, true, false, List, [], ◌∷◌, All, filter, length, map, Option, Some, None, IfSome, IsSome, IsSomeAnd}
+use Rattle.std.specs.Prelude.{◌≡◌, ◌≤◌, ◌++◌, ◌||◌, ◌↔◌, Bool, true, false, List, [], ◌∷◌, All, filter, length, map, Option, Some, None, IfSome, IsSome, IsSomeAnd, IsTrue}
 use Rattle.std.specs.List.Sorted.{IsNonDecreasing}
 use Rattle.std.specs.Option.{is_some}
 use Rattle.objective.specs.Bounds.{Bounds}
@@ -34,6 +34,7 @@ use Rattle.board_steps.specs.ShownEntries.{ShowsAll, ShowsAborted}
 use Rattle.pool_run.specs.Seats.{SeatState, fault_of, IsFault}
 use Rattle.pool_run.specs.Starts.{HasStarted}
 use Rattle.pool_run.specs.Turns.{is_take, is_record}
+use Rattle.pool_run.specs.Works.{HasWorked}
 use Rattle.pool_run.specs.declared.driving.Driven.{Driven}
 use Rattle.pool_run.specs.declared.driving.Driven.TheVariants.{Ended, Fault, Memory}
 
@@ -131,15 +132,26 @@ abbrev pub ShowsAtEnd : Option Cell → View → Run → Run → Type 0
 ShowsAtEnd None view run whole = ShowsAll view run whole
 ShowsAtEnd (Some cell) view run whole = ShowsAborted view run whole
 
+-- what holds where a drive begins: no child runs, no ticket is live, and the board isn't stopped
+pub record MayDrive (board : BoardState) (seat : SeatState) : Type 0 where
+  pub idle : IsTrue seat.told.idle
+  pub free : board.live ≡ []
+  pub going : board.stopped ≡ false
+
 -- what a drive came to
 pub record DroveTo (shown : Rules → List Reply → View) (program : Program) (result : Driven) (board board' : BoardState)
     (seat seat' : SeatState) : Type 0 where
+  pub idle : IsTrue seat'.told.idle
+  pub counts : seat.told.faults ≤ seat'.told.faults
   pub left : List Ticket
   pub told : SpawnerTold  -- after the last run that was answered
   pub made : HasMade program left (plain board) (plain board') seat.told told seat.tickets seat'.tickets
   pub last : IsLeft result seat' left
   pub now : result ≡ Ended → told ≡ seat'.told
+  pub worked : HasWorked program seat seat'
   pub over : has_ended result ≡ is_over shown board'
+  pub stopped : has_ended result ≡ false → board'.stopped ≡ true
+  pub free : board'.live ≡ []
   pub fault : IfSome (fault_of seat') (IsFault seat.told seat'.told)
-  pub kept : result ≡ Fault → IsSome (fault_of seat')
+  pub kept : result ≡ Fault ↔ IsSome (fault_of seat')
   pub short : result ≡ Memory → seat'.short ≡ true

@@ -1,44 +1,46 @@
--- How a run ends, by cases, and what that makes of a board and of a seat.
-use Rattle.std.specs.Prelude.{◌≡◌, ◌∷◌, [], Some, true}
+-- What the end of a run makes of a board, of a seat and of a drive.
+use Rattle.std.specs.Prelude.{◌≡◌, ◌∷◌, [], OnOk, Some, true, Result, Ok, Err}
 use Rattle.objective.specs.declared.Answer.{Answer}
 use Rattle.wrapper_lines.specs.declared.runs.Program.{Program}
+use Rattle.outside.specs.Changes.{has_failed}
 use Rattle.outside.specs.Counts.{Rose}
+use Rattle.outside.specs.declared.faults.Fault.{Fault}
+use Rattle.outside.specs.declared.faults.Fault.TheVariants as fault
 use Rattle.outside.specs.ToldStates.{SpawnerTold}
+use Rattle.board_steps.specs.declared.tickets.Kind.{Kind}
+use Rattle.board_steps.specs.declared.tickets.Kind.TheVariants.{Asked, Ahead}
 use Rattle.board_steps.specs.declared.tickets.Ticket.{Ticket}
 use Rattle.board_steps.specs.Boards.{PlainBoard}
 use Rattle.board_steps.specs.Steps.{after_lost, after_record, after_stop}
-use Rattle.pool_run.specs.Seats.{SeatState}
-use Rattle.pool_run.specs.Starts.{HasStarted}
-use Rattle.pool_run.specs.declared.runs.RunEnd.{RunEnd}
-use Rattle.pool_run.specs.declared.runs.RunEnd.TheVariants
+use Rattle.pool_run.specs.declared.driving.Driven.{Driven}
+use Rattle.pool_run.specs.declared.driving.Driven.TheVariants as driven
+use Rattle.pool_run.specs.Seats.{SeatState, with_fault}
+use Rattle.pool_run.specs.Starts.{HasStarted, MayHaveStarted}
 
--- the fact of the answer, where there is one
-abbrev pub IfAnswer : RunEnd → (Answer → Type 0) → Type 0
-IfAnswer (TheVariants.Answer a) P = P a
-IfAnswer TheVariants.Failed P = Unit {0}
-IfAnswer TheVariants.Memory P = Unit {0}
+-- a board that lost a ticket of this kind: it is stopped where the ticket was asked for
+abbrev pub stopped_for : Kind → PlainBoard → PlainBoard
+stopped_for Asked b = after_stop b
+stopped_for Ahead b = b
 
--- the fact, where the run failed
-abbrev pub OnFailed : RunEnd → Type 0 → Type 0
-OnFailed (TheVariants.Answer a) P = Unit {0}
-OnFailed TheVariants.Failed P = P
-OnFailed TheVariants.Memory P = Unit {0}
+-- a board after the run of a ticket: its answer is recorded, or it is given up
+abbrev pub board_after : Result Answer Fault → PlainBoard → Ticket → PlainBoard
+board_after (Ok a) b t = after_record b t a
+board_after (Err f) b t = stopped_for t.kind (after_lost b t)
 
--- a board after the run of a ticket: its answer is recorded, or it is lost and the board stopped
-abbrev pub board_after : RunEnd → PlainBoard → Ticket → PlainBoard
-board_after (TheVariants.Answer a) b t = after_record b t a
-board_after TheVariants.Failed b t = after_stop (after_lost b t)
-board_after TheVariants.Memory b t = after_stop (after_lost b t)
+-- a seat after a run, whose spawner tells this now
+abbrev pub seat_after : Result Answer Fault → SeatState → SpawnerTold → SeatState
+seat_after (Ok a) seat told = record seat { told = told }
+seat_after (Err f) seat told = with_fault f (record seat { told = told })
 
--- a seat after a run, whose spawner tells this now: it keeps that the run failed, or that there was no memory
-abbrev pub seat_after : RunEnd → SeatState → SpawnerTold → SeatState
-seat_after (TheVariants.Answer a) seat told = record seat { told = told }
-seat_after TheVariants.Failed seat told = record seat { told = told; failed = true }
-seat_after TheVariants.Memory seat told = record seat { told = told; short = true }
+-- how a drive ends where a run can't be made
+abbrev pub ended_by : Fault → Driven
+ended_by fault.Failed = driven.Fault
+ended_by fault.Memory = driven.Memory
 
--- the run of a ticket was made and ended so: with an answer its child was started, and nothing else
-pub record RanTicket (program : Program) (end : RunEnd) (board board' : PlainBoard) (told told' : SpawnerTold) (t : Ticket) : Type 0 where
+-- the run of a ticket was made and ended so: no other child was started, and with an answer its own was
+pub record RanTicket (program : Program) (end : Result Answer Fault) (board board' : PlainBoard) (told told' : SpawnerTold) (t : Ticket) : Type 0 where
   pub after : board' ≡ board_after end board t
-  pub started : IfAnswer end (λ a. HasStarted program told told' (t.run ∷ []))
-  pub failed : OnFailed end (told'.failed_run ≡ Some t.run)
-  pub rose : OnFailed end (Rose told.faults told'.faults)
+  pub started : OnOk end (HasStarted program told told' (t.run ∷ []))
+  pub may : MayHaveStarted program told told' t.run
+  pub failed : has_failed end ≡ true → told'.failed_run ≡ Some t.run
+  pub rose : has_failed end ≡ true → Rose told.faults told'.faults

@@ -1,5 +1,5 @@
 -- The children of a seat, by the runs that they are of.
-use Rattle.std.specs.Prelude.{◌≡◌, List, ◌++◌, map, Option, Some, None}
+use Rattle.std.specs.Prelude.{◌≡◌, Bool, List, [], ◌∷◌, ◌++◌, map, Option, Some, None, if◌then◌else◌}
 use Rattle.wrapper_lines.specs.Runs.{words_of}
 use Rattle.wrapper_lines.specs.declared.runs.Program.{Program}
 use Rattle.wrapper_lines.specs.declared.runs.Run.{Run}
@@ -14,3 +14,8 @@ told_more (Some xs) more = Some (xs ++ more)
 pub record HasStarted (program : Program) (before after : SpawnerTold) (runs : List Run) : Type 0 where
   pub words : after.started ≡ told_more before.started (map (words_of program) runs)
   pub folders : after.folders ≡ told_more before.folders (map (λ run. program.dir) runs)
+
+-- the child of a run was started, or none
+pub record MayHaveStarted (program : Program) (before after : SpawnerTold) (run : Run) : Type 0 where
+  pub has : Bool
+  pub runs : HasStarted program before after (if has then run ∷ [] else [])

@@ -9,7 +9,7 @@ use Rattle.board_steps.specs.declared.answers.Phase.{Phase}
 use Rattle.board_steps.specs.declared.answers.Phase.TheVariants as phase
 use Rattle.board_steps.specs.declared.answers.Taken.TheVariants as taken
 use Rattle.board_steps.specs.declared.events.Event.{Event}
-use Rattle.board_steps.specs.declared.events.Event.TheVariants.{Advance, Take, Record, Lost, Mark, Killed, Stop, Resume}
+use Rattle.board_steps.specs.declared.events.Event.TheVariants.{Take, Record}
 use Rattle.board_steps.specs.declared.tickets.Ticket.{Ticket}
 use Rattle.board_steps.specs.Numbering.{tickets_of}
 use Rattle.board_steps.specs.Phases.{phase_of}
@@ -20,25 +20,13 @@ use Rattle.pool_run.specs.declared.turns.Turn.TheVariants as turn
 
 -- the event took a ticket
 abbrev pub is_take : Event → Bool
-is_take Advance = false
 is_take (Take number kind cell cutoff asked_at) = true
-is_take (Record number answer) = false
-is_take (Lost number) = false
-is_take (Mark number) = false
-is_take (Killed number) = false
-is_take Stop = false
-is_take Resume = false
+is_take e = false
 
 -- the event recorded an answer
 abbrev pub is_record : Event → Bool
-is_record Advance = false
-is_record (Take number kind cell cutoff asked_at) = false
 is_record (Record number answer) = true
-is_record (Lost number) = false
-is_record (Mark number) = false
-is_record (Killed number) = false
-is_record Stop = false
-is_record Resume = false
+is_record e = false
 
 -- the events that came neither took a ticket nor recorded an answer, and the problem is the same
 pub record AddsNoRun (before after : PlainBoard) : Type 0 where
@@ -53,51 +41,53 @@ pub record KeepsTickets (before after : PlainBoard) : Type 0 where
   pub added : AddsNoRun before after
   pub live : tickets_of after.live ≡ tickets_of before.live
 
+-- besides, it is stopped where it was before
+pub record KeepsGoing (before after : PlainBoard) : Type 0 where
+  pub keeps : KeepsTickets before after
+  pub going : after.stopped ≡ before.stopped
+
 -- a run of the present ask is needed
 abbrev pub needs_run : Phase → Bool
-needs_run phase.Stopped = false
-needs_run phase.Aborted = false
-needs_run (phase.Open (verdict.Reply r)) = false
 needs_run (phase.Open (verdict.Need place cutoff)) = true
-needs_run (phase.Open (verdict.Aborted place)) = false
-needs_run (phase.Open verdict.Ended) = false
+needs_run p = false
 
 -- no run is needed any more
 abbrev pub is_done : Phase → Bool
 is_done phase.Stopped = true
 is_done phase.Aborted = true
-is_done (phase.Open (verdict.Reply r)) = false
-is_done (phase.Open (verdict.Need place cutoff)) = false
-is_done (phase.Open (verdict.Aborted place)) = false
 is_done (phase.Open verdict.Ended) = true
+is_done p = false
+
+-- a seat took a ticket
+pub record TookOne (seat seat' : SeatState) : Type 0 where
+  pub ticket : Ticket
+  pub list : seat' ≡ record seat { tickets = seat.tickets ++ ticket ∷ [] }
 
 module _ (shown : Rules → List Reply → View) where
   -- a board advanced as far as it goes: a run is needed then, or none any more
   pub record AdvancedTo (needed : Bool) (board board' : PlainBoard) : Type 0 where
-    pub keeps : KeepsTickets board board'
-    pub going : board'.stopped ≡ board.stopped
+    pub keeps : KeepsGoing board board'
     pub needs : needs_run (phase_of shown board') ≡ needed
     pub done : is_done (phase_of shown board') ≡ not needed
 
   -- a seat took a ticket, which the board gave after steps that keep the tickets
   pub record TookTicket (board board' : PlainBoard) (seat seat' : SeatState) : Type 0 where
-    pub ticket : Ticket
+    pub one : TookOne seat seat'
     pub between : PlainBoard
     pub keeps : KeepsTickets board between
-    pub given : taken_on shown between ≡ taken.Ticket ticket
-    pub after : board' ≡ with_ticket between ticket
-    pub list : seat' ≡ record seat { tickets = seat.tickets ++ ticket ∷ [] }
+    pub given : taken_on shown between ≡ taken.Ticket one.ticket
+    pub after : board' ≡ with_ticket between one.ticket
 
   -- the needed run is being made, and there is none to make ahead
   pub record StayedIdle (board board' : PlainBoard) (seat seat' : SeatState) : Type 0 where
     pub keeps : KeepsTickets board board'
     pub busy : tickets_of board.live ≡ [] → ⊥
+    pub none : taken_on shown board' ≡ taken.Idle
     pub same : seat' ≡ seat
 
   -- no run is needed any more
   pub record CameToEnd (board board' : PlainBoard) (seat seat' : SeatState) : Type 0 where
-    pub keeps : KeepsTickets board board'
-    pub going : board'.stopped ≡ board.stopped
+    pub keeps : KeepsGoing board board'
     pub done : is_done (phase_of shown board') ≡ true
     pub same : seat' ≡ seat
 

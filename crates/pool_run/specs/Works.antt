@@ -1,11 +1,11 @@
 -- What a seat does beside other seats, and what it started.
-use Rattle.std.specs.Prelude.{◌≡◌, ◌≤◌, ◌++◌, ◌∷◌, [], Bool, true, false, List, filter, map, IsTrue, if◌then◌else◌}
+use Rattle.std.specs.Prelude.{◌≡◌, ◌≤◌, ◌++◌, Bool, true, false, List, filter, map, IsTrue}
 use Rattle.wrapper_lines.specs.declared.runs.Program.{Program}
 use Rattle.wrapper_lines.specs.declared.runs.Run.{Run}
-use Rattle.outside.specs.ToldStates.{SpawnerTold}
 use Rattle.board_steps.specs.declared.tickets.Ticket.{Ticket}
 use Rattle.pool_run.specs.Seats.{SeatState, IsFault}
-use Rattle.pool_run.specs.Starts.{HasStarted}
+use Rattle.pool_run.specs.Starts.{HasStarted, MayHaveStarted}
+use Rattle.pool_run.specs.Turns.{TookOne}
 use Rattle.pool_run.specs.declared.turns.Turn.{Turn}
 use Rattle.pool_run.specs.declared.turns.Turn.TheVariants as turn
 
@@ -28,22 +28,12 @@ pub record HasWorked (program : Program) (seat seat' : SeatState) : Type 0 where
   pub tickets : seat'.tickets ≡ seat.tickets ++ tickets_of worked
   pub started : HasStarted program seat.told seat'.told (runs_started worked)
 
--- a seat took a ticket
-pub record TookOne (seat seat' : SeatState) : Type 0 where
-  pub ticket : Ticket
-  pub list : seat' ≡ record seat { tickets = seat.tickets ++ ticket ∷ [] }
-
 -- what a turn made of a seat
 abbrev pub SeatTurned : Turn → SeatState → SeatState → Type 0
 SeatTurned turn.Run seat seat' = TookOne seat seat'
 SeatTurned turn.Idle seat seat' = seat' ≡ seat
 SeatTurned turn.Over seat seat' = seat' ≡ seat
 SeatTurned turn.Short seat seat' = seat' ≡ record seat { short = true }
-
--- the child of a run was started, or none
-pub record MayHaveStarted (program : Program) (before after : SpawnerTold) (run : Run) : Type 0 where
-  pub has : Bool
-  pub runs : HasStarted program before after (if has then run ∷ [] else [])
 
 -- the run of a seat's last ticket was made beside other seats, and the seat goes on or not; where the seat kept no fault
 -- before, it keeps one only of this ticket

@@ -1,36 +1,18 @@
 //! The child of a ticket, beside other seats. The board is locked for single steps alone, never while a
 //! child is started, looked at or killed.
-ghost use Rattle.std.specs.Prelude.{◌≡◌, ◌≤◌, ◌∷◌, [], IsTrue, OnOk, Some, is_ok, not, true, false, if◌then◌else◌};
+ghost use Rattle.std.specs.Prelude.{◌≡◌, ◌≤◌, IsTrue, Some, is_ok, true, false};
 ghost use Rattle.outside.specs.Changes.{has_failed};
 ghost use Rattle.outside.specs.Counts.{Rose};
-ghost use Rattle.pool_run.specs.Starts.{HasStarted};
-ghost use Rattle.pool_run.specs.Works.{MayHaveStarted};
+ghost use Rattle.pool_run.specs.Starts.{MayHaveStarted};
 
+use crate::runs::start_run;
+use crate::turns::give_up;
 use ils_face::Search;
 use outside::{Fail, Fault, Poll, Spawner};
 use pool_core::{Board, Standing, Ticket};
 use std::alloc::Global;
 use std::sync::{Condvar, Mutex, Wait};
-use wrapper_lines::{Program, Run, answer_of, words_of};
-
-/// Makes the words of a run, and starts its child.
-fn start_run<S: Spawner>(
-    alloc: Global,
-    spawner: &mut S,
-    program: &Program,
-    run: &Run,
-) -> Result<(), Fault>
-    requires { IsTrue (S.told spawner.old).idle }
-    ensures busy { (S.told spawner.new).idle ≡ not (is_ok result) }
-    ensures running { OnOk result ((S.told spawner.new).current ≡ Some run.now) }
-    ensures started { HasStarted program.now (S.told spawner.old) (S.told spawner.new) (if is_ok result then run.now ∷ [] else []) }
-    ensures failed_run { has_failed result ≡ true → (S.told spawner.new).failed_run ≡ Some run.now }
-    ensures rose { has_failed result ≡ true → Rose (S.told spawner.old).faults (S.told spawner.new).faults }
-    ensures counts { (S.told spawner.old).faults ≤ (S.told spawner.new).faults }
-{
-    let words = words_of(alloc, program, run)?;
-    spawner.start(program.dir.as_str(), words.as_slice(), run)
-}
+use wrapper_lines::{Program, answer_of};
 
 /// Whether the run of a ticket is still wanted. It may wait.
 fn is_wanted<R: Wait, P: Search, S: Spawner>(
@@ -70,6 +52,19 @@ fn tell_answer<R: Wait, P: Search, S: Spawner>(
     } else {
         locked.killed(ticket);
     }
+    drop(locked);
+    bell.notify_all();
+}
+
+/// Tells the board that the run of a ticket can't be made. It may wait.
+pub(crate) fn tell_lost<R: Wait, P: Search, S: Spawner>(
+    rt: &R,
+    board: &Mutex<Board<P, S>>,
+    bell: &Condvar,
+    ticket: &Ticket,
+) {
+    let mut locked = board.lock(rt);
+    give_up(&mut *locked, ticket);
     drop(locked);
     bell.notify_all();
 }

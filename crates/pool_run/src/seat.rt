@@ -1,9 +1,9 @@
 //! Seats.
 ghost use Rattle.std.specs.Prelude.{◌≡◌, [], false, option_map};
-ghost use Rattle.pool_run.specs.Seats.{fault_of};
+ghost use Rattle.pool_run.specs.Seats.{fault_of, with_fault};
 
 use board_steps::Ticket;
-use outside::Spawner;
+use outside::{Fault, Spawner};
 use std::alloc::Global;
 use std::marker::Model;
 
@@ -70,12 +70,29 @@ impl<S: Spawner> Seat<S> {
         self.short
     }
 
+    /// Keeps why the run of the last ticket couldn't be made.
+    pub(crate) fn keep(&mut self, fault: Fault)
+        ensures { self.new ≡ with_fault fault self.old }
+    {
+        match fault {
+            Fault::Failed => self.failed = true,
+            Fault::Memory => self.short = true,
+        }
+    }
+
+    /// Drops the fault and that there was no memory.
+    pub(crate) fn forget(&mut self)
+        ensures { self.new ≡ record self.old { failed = false; short = false } }
+    {
+        self.failed = false;
+        self.short = false;
+    }
+
     /// Drops the tickets, the fault and that there was no memory; the spawner stays as it was.
     pub fn clear(&mut self)
         ensures { self.new ≡ record { told = self.old.told; tickets = []; failed = false; short = false } }
     {
         self.tickets.clear();
-        self.failed = false;
-        self.short = false;
+        self.forget();
     }
 }

@@ -1,13 +1,15 @@
 //! What a seat does with the board between two runs.
 ghost use Rattle.std.specs.Prelude.{◌≡◌, IfOk, OnErr};
 ghost use Rattle.board_steps.specs.Boards.{plain};
-ghost use Rattle.pool_run.specs.Turns.{AdvancedTo, HasTurned, KeepsTickets};
+ghost use Rattle.board_steps.specs.Steps.{after_lost};
+ghost use Rattle.pool_run.specs.RunEnds.{stopped_for};
+ghost use Rattle.pool_run.specs.Turns.{AdvancedTo, HasTurned, KeepsGoing};
 
 use crate::seat::Seat;
 use ils_face::Search;
 use objective::Memory;
-use outside::Spawner;
-use pool_core::{Advanced, Board, Taken};
+use outside::{Fault, Spawner};
+use pool_core::{Advanced, Board, Kind, Taken, Ticket};
 use std::sync::Wait;
 
 /// What comes next for a seat.
@@ -29,33 +31,43 @@ fn advance_on<R: Wait, P: Search, S: Spawner>(
     board: &mut Board<P, S>,
 ) -> Result<bool, Memory>
     ensures advanced { IfOk result (λ needed. AdvancedTo P.shown needed (plain board.old) (plain board.new)) }
-    ensures keeps { OnErr result (KeepsTickets (plain board.old) (plain board.new)) }
+    ensures keeps { OnErr result (KeepsGoing (plain board.old) (plain board.new)) }
 {
     for _ in rt.forever() {
         match board.advance()? {
             Advanced::Moved => {}
             Advanced::Waits => return Ok(true),
-            Advanced::Ended => return Ok(false),
-            Advanced::Aborted => return Ok(false),
-            Advanced::Stopped => return Ok(false),
+            Advanced::Ended | Advanced::Aborted | Advanced::Stopped => return Ok(false),
         }
     }
     unreachable!()
 }
 
-/// Advances a board, marks what isn't wanted any more, and takes a ticket into the seat's list where
-/// one is given. It may wait.
+/// Advances a board as far as it goes, marks what isn't wanted any more, and tells whether a run is
+/// needed then. It may wait.
+fn advance_and_mark<R: Wait, P: Search, S: Spawner>(
+    rt: &R,
+    board: &mut Board<P, S>,
+) -> Result<bool, Memory>
+    ensures advanced { IfOk result (λ needed. AdvancedTo P.shown needed (plain board.old) (plain board.new)) }
+    ensures keeps { OnErr result (KeepsGoing (plain board.old) (plain board.new)) }
+{
+    let needed = advance_on(rt, board)?;
+    board.mark();
+    Ok(needed)
+}
+
+/// Takes a ticket into the seat's list, where a run is needed and the board gives one. It may wait.
 fn take_turn<R: Wait, P: Search, S: Spawner>(
     rt: &R,
     board: &mut Board<P, S>,
     seat: &mut Seat<S>,
 ) -> Result<Turn, Memory>
     ensures turned { IfOk result (λ turn. HasTurned P.shown turn (plain board.old) (plain board.new) seat.old seat.new) }
-    ensures keeps { OnErr result (KeepsTickets (plain board.old) (plain board.new)) }
+    ensures keeps { OnErr result (KeepsGoing (plain board.old) (plain board.new)) }
     ensures same { OnErr result (seat.new ≡ seat.old) }
 {
-    let needed = advance_on(rt, board)?;
-    board.mark();
+    let needed = advance_and_mark(rt, board)?;
     if !needed {
         return Ok(Turn::Over);
     }
@@ -66,9 +78,7 @@ fn take_turn<R: Wait, P: Search, S: Spawner>(
             Ok(Turn::Run)
         }
         Taken::Idle => Ok(Turn::Idle),
-        Taken::Decided => Ok(Turn::Idle),
-        Taken::Ended => Ok(Turn::Over),
-        Taken::Stopped => Ok(Turn::Over),
+        Taken::Decided | Taken::Ended | Taken::Stopped => unreachable!(),
     }
 }
 
@@ -85,9 +95,20 @@ pub(crate) fn next_turn<R: Wait, P: Search, S: Spawner>(
     match take_turn(rt, board, seat) {
         Ok(turn) => turn,
         Err(_) => {
-            seat.short = true;
+            seat.keep(Fault::Memory);
             board.stop();
             Turn::Short
         }
+    }
+}
+
+/// Ends a ticket whose run can't be made. Where it was asked for, the board is stopped: nobody goes on.
+pub(crate) fn give_up<P: Search, S: Spawner>(board: &mut Board<P, S>, ticket: &Ticket)
+    ensures { plain board.new ≡ stopped_for ticket.now.kind (after_lost (plain board.old) ticket.now) }
+{
+    board.lost(ticket);
+    match ticket.kind {
+        Kind::Asked => board.stop(),
+        Kind::Ahead => {}
     }
 }

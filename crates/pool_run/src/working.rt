@@ -3,12 +3,12 @@ ghost use Rattle.std.specs.Prelude.{◌≡◌, ◌≤◌, IsTrue, IfSome, IsSome
 ghost use Rattle.pool_run.specs.Seats.{IsFault, fault_of, last_of};
 ghost use Rattle.pool_run.specs.Works.{HasWorked, RanBeside, SeatTurned};
 
-use crate::children::run_beside;
+use crate::children::{run_beside, tell_lost};
 use crate::seat::Seat;
 use crate::turns::{Turn, next_turn};
 use ils_face::Search;
-use outside::{Fault, Spawner};
-use pool_core::{Board, Kind, Ticket};
+use outside::Spawner;
+use pool_core::{Board, Kind};
 use std::sync::{Condvar, Mutex, Wait};
 use wrapper_lines::Program;
 
@@ -47,26 +47,9 @@ fn turn_beside<R: Wait, P: Search, S: Spawner>(
     turn
 }
 
-/// Tells the board that the run of a ticket can't be made; where it was asked for, nobody goes on. It may
-/// wait.
-fn tell_lost<R: Wait, P: Search, S: Spawner>(
-    rt: &R,
-    board: &Mutex<Board<P, S>>,
-    bell: &Condvar,
-    ticket: &Ticket,
-) {
-    let mut locked = board.lock(rt);
-    locked.lost(ticket);
-    if ticket.kind == Kind::Asked {
-        locked.stop();
-    }
-    drop(locked);
-    bell.notify_all();
-}
-
 /// Makes the run of the seat's last ticket. Where it can't be made and was asked for, the seat keeps that,
 /// and doesn't go on. It may wait.
-fn run_last<R: Wait, P: Search, S: Spawner>(
+fn run_last_beside<R: Wait, P: Search, S: Spawner>(
     rt: &R,
     board: &Mutex<Board<P, S>>,
     bell: &Condvar,
@@ -90,10 +73,7 @@ fn run_last<R: Wait, P: Search, S: Spawner>(
     if ticket.kind == Kind::Ahead {
         return true;
     }
-    match fault {
-        Fault::Failed => seat.failed = true,
-        Fault::Memory => seat.short = true,
-    }
+    seat.keep(fault);
     false
 }
 
@@ -120,12 +100,11 @@ pub fn work<R: Wait, P: Search, S: Spawner>(
     // A kept fault is of an asked ticket, the last one, whose run is the one that failed.
     ensures fault { IfSome (fault_of seat.new) (IsFault seat.old.told seat.new.told) }
 {
-    seat.failed = false;
-    seat.short = false;
+    seat.forget();
     for _ in rt.forever() {
         match turn_beside(rt, board, bell, seat) {
             Turn::Run => {
-                if !run_last(rt, board, bell, program, seat) {
+                if !run_last_beside(rt, board, bell, program, seat) {
                     return;
                 }
             }

@@ -1,11 +1,10 @@
 use Rattle.std.proofs.Common.{◌≡◌, ◌++◌, List, [], ◌∷◌, Result, Ok, Err, OnErr, Bool, ap, sym, subst, ◌∙◌}
 use Rattle.outside.specs.ToldStates.{SpawnerTold}
 use Rattle.board_steps.specs.Boards.{PlainBoard, plain}
-use Rattle.board_steps.specs.declared.answers.Taken.TheVariants as taken
 use Rattle.board_steps.specs.declared.tickets.Ticket.{Ticket}
 use Rattle.pool_run.specs.Seats.{SeatState}
-use Rattle.pool_run.specs.Turns.{KeepsTickets}
-use Rattle.pool_run.proofs.TurnSteps.{keeps-marked, came-so, need-so, took-so, idle-so}
+use Rattle.pool_run.specs.Turns.{KeepsGoing}
+use Rattle.pool_run.proofs.TurnSteps.{need-never, took-so, idle-so}
 use Rattle.pool_run.proofs.turns.take_turn.Goals as goal
 
 -- what holds anyway holds where a call fails
@@ -30,50 +29,28 @@ list-same told failed short ts ts' seat view same =
     let listed : List Ticket → SeatState = λ xs. record { told = told; tickets = xs; failed = failed; short = short } in
     ap listed same ∙ view
 
-pub returns-then-not-needed-clause-turned : goal.returns-then-not-needed-clause-turned
-returns-then-not-needed-clause-turned g c =
-    came-so g.P.Search.shown (plain c.args.board.now) (plain c.advance_on.new.board) (plain c.mark.new.self) c.in_ok-needed.needed c.args.seat.now
-    c.in_ok-needed.ensures.advanced c.mark.ensures.board c.if-not-needed.true
-
-pub returns-in_err-reserve-clause-keeps : goal.returns-in_err-reserve-clause-keeps
-returns-in_err-reserve-clause-keeps g c =
-    always-err _ (keeps-marked g.P.Search.shown (plain c.args.board.now) (plain c.advance_on.new.board) (plain c.mark.new.self) c.in_ok-needed.needed
-    c.in_ok-needed.ensures.advanced c.mark.ensures.board)
-
 pub returns-in_err-ticket-clause-keeps : goal.returns-in_err-ticket-clause-keeps
 returns-in_err-ticket-clause-keeps g c =
-    let keeps = keeps-marked g.P.Search.shown (plain c.args.board.now) (plain c.advance_on.new.board) (plain c.mark.new.self) c.in_ok-needed.needed
-    c.in_ok-needed.ensures.advanced c.mark.ensures.board in
-    let P : PlainBoard → Type 0 = λ b. KeepsTickets (plain c.args.board.now) b in
-    always-err _ (subst P (sym c.in_err-ticket.ensures.err) keeps)
+    let P : PlainBoard → Type 0 = λ b. KeepsGoing (plain c.args.board.now) b in
+    always-err _ (subst P (sym c.in_err-ticket.ensures.err) c.in_ok-needed.ensures.advanced.keeps)
 
 pub returns-in-Ticket-clause-turned : goal.returns-in-Ticket-clause-turned
 returns-in-Ticket-clause-turned g c =
     let i = c.seat.inside in
     let t = c.in-Ticket.ticket in
     let more : c.push_reserved.new.self.items ≡ i.tickets.items ++ t ∷ [] = ◌∙◌ {A = List Ticket} c.push_reserved.ensures.items (ap (λ ts. ts ++ t ∷ []) c.reserve.ensures.items) in
-    took-so g.P.Search.shown (plain c.args.board.now) (plain c.advance_on.new.board) (plain c.mark.new.self) (plain c.take.new.self) c.in_ok-needed.needed _ t
-    c.args.seat.now _ c.in_ok-needed.ensures.advanced c.mark.ensures.board c.in_ok-ticket.ensures.answer c.in-Ticket.is c.in_ok-ticket.ensures.board
+    took-so g.P.Search.shown (plain c.args.board.now) (plain c.advance_and_mark.new.board) (plain c.take.new.self) c.in_ok-needed.needed _ c.args.seat.now _ t
+    c.in_ok-needed.ensures.advanced c.in_ok-ticket.ensures.answer c.in-Ticket.is c.in_ok-ticket.ensures.board
     (list-more (g.S.Spawner.told i.spawner) i.failed i.short i.tickets.items c.push_reserved.new.self.items c.args.seat.now t c.seat.view_is more)
 
 pub returns-in-Idle-clause-turned : goal.returns-in-Idle-clause-turned
 returns-in-Idle-clause-turned g c =
     let i = c.seat.inside in
-    idle-so g.P.Search.shown (plain c.args.board.now) (plain c.advance_on.new.board) (plain c.mark.new.self) (plain c.take.new.self) c.in_ok-needed.needed _
-    c.args.seat.now _ c.in_ok-needed.ensures.advanced c.mark.ensures.board c.if-not-needed.false c.in_ok-ticket.ensures.answer c.in-Idle.is c.in_ok-ticket.ensures.board
+    idle-so g.P.Search.shown (plain c.args.board.now) (plain c.advance_and_mark.new.board) (plain c.take.new.self) c.in_ok-needed.needed _ c.args.seat.now _
+    c.in_ok-needed.ensures.advanced c.if-not-needed.false c.in_ok-ticket.ensures.answer c.in-Idle.is c.in_ok-ticket.ensures.board
     (list-same (g.S.Spawner.told i.spawner) i.failed i.short i.tickets.items c.reserve.new.self.items c.args.seat.now c.seat.view_is c.reserve.ensures.items)
 
-pub returns-in-Decided-clause-turned : goal.returns-in-Decided-clause-turned
-returns-in-Decided-clause-turned g c =
-    absurd (need-so g.P.Search.shown (plain c.args.board.now) (plain c.advance_on.new.board) (plain c.mark.new.self) c.in_ok-needed.needed _ taken.Decided
-    c.in_ok-needed.ensures.advanced c.mark.ensures.board c.if-not-needed.false c.in_ok-ticket.ensures.answer c.in-Decided.is)
-
-pub returns-in-Ended-clause-turned : goal.returns-in-Ended-clause-turned
-returns-in-Ended-clause-turned g c =
-    absurd (need-so g.P.Search.shown (plain c.args.board.now) (plain c.advance_on.new.board) (plain c.mark.new.self) c.in_ok-needed.needed _ taken.Ended
-    c.in_ok-needed.ensures.advanced c.mark.ensures.board c.if-not-needed.false c.in_ok-ticket.ensures.answer c.in-Ended.is)
-
-pub returns-in-Stopped-clause-turned : goal.returns-in-Stopped-clause-turned
-returns-in-Stopped-clause-turned g c =
-    absurd (need-so g.P.Search.shown (plain c.args.board.now) (plain c.advance_on.new.board) (plain c.mark.new.self) c.in_ok-needed.needed _ taken.Stopped
-    c.in_ok-needed.ensures.advanced c.mark.ensures.board c.if-not-needed.false c.in_ok-ticket.ensures.answer c.in-Stopped.is)
+pub unreachable-requires : goal.unreachable-requires
+unreachable-requires g c =
+    need-never g.P.Search.shown (plain c.args.board.now) (plain c.advance_and_mark.new.board) c.in_ok-needed.needed _
+    c.in_ok-needed.ensures.advanced c.if-not-needed.false c.in_ok-ticket.ensures.answer c.in-Decided.is

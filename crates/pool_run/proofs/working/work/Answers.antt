@@ -1,22 +1,20 @@
-use Rattle.std.proofs.Common.{IsTrue, refl, sym, ap, subst}
-use Rattle.pool_run.specs.Seats.{SeatState}
-use Rattle.pool_run.proofs.WorkedSeats.{worked-since, took-some, has-run, begins, still-at-work}
+use Rattle.pool_run.proofs.StartedRuns.{took-some}
+use Rattle.pool_run.proofs.WorkedSeats.{has-run, begins, still-at-work}
 use Rattle.pool_run.proofs.working.work.Goals as goal
 
 pub loop-init : goal.loop-init
-loop-init g c =
-    let P : SeatState → Type 0 = λ s. IsTrue s.told.idle in
-    (tt, tt, begins c.args.program.now _ refl (subst P (sym c.seat.view_is) c.requires))
+loop-init g c = (tt, tt, begins c.args.program.now c.args.seat.now _ c.requires c.forget.ensures)
 
-pub run_last-requires-clause-some : goal.run_last-requires-clause-some
-run_last-requires-clause-some g c = took-some c.loop.seat c.turn_beside.new.seat c.in-Run.ensures
+pub run_last_beside-requires-clause-some : goal.run_last_beside-requires-clause-some
+run_last_beside-requires-clause-some g c = took-some c.loop.seat c.turn_beside.new.seat c.in-Run.ensures
 
-pub returns-then-not-run_last-clause-worked : goal.returns-then-not-run_last-clause-worked
-returns-then-not-run_last-clause-worked g c =
-    let has = has-run c.args.program.now _ c.loop.seat c.turn_beside.new.seat c.run_last.new.seat c.run_last.result c.loop.invariant.2 c.in-Run.ensures c.run_last.ensures.ran c.run_last.ensures.counts in
-    worked-since c.args.program.now _ c.args.seat.now c.run_last.new.seat (ap (λ s. s.tickets) c.seat.view_is) (ap (λ s. s.told) c.seat.view_is) has.worked
+pub returns-then-not-run_last_beside-clause-worked : goal.returns-then-not-run_last_beside-clause-worked
+returns-then-not-run_last_beside-clause-worked g c =
+    (has-run c.args.program.now c.args.seat.now c.loop.seat c.turn_beside.new.seat c.run_last_beside.new.seat c.run_last_beside.result
+    c.loop.invariant.2 c.in-Run.ensures c.run_last_beside.ensures.ran c.run_last_beside.ensures.counts).worked
 
-pub loop-preserved-else-not-run_last : goal.loop-preserved-else-not-run_last
-loop-preserved-else-not-run_last g c =
-    let has = has-run c.args.program.now _ c.loop.seat c.turn_beside.new.seat c.run_last.new.seat c.run_last.result c.loop.invariant.2 c.in-Run.ensures c.run_last.ensures.ran c.run_last.ensures.counts in
-    (tt, tt, still-at-work c.args.program.now _ c.run_last.new.seat c.run_last.result c.if-not-run_last.false has c.run_last.ensures.idle)
+pub loop-preserved-else-not-run_last_beside : goal.loop-preserved-else-not-run_last_beside
+loop-preserved-else-not-run_last_beside g c =
+    let has = has-run c.args.program.now c.args.seat.now c.loop.seat c.turn_beside.new.seat c.run_last_beside.new.seat c.run_last_beside.result
+    c.loop.invariant.2 c.in-Run.ensures c.run_last_beside.ensures.ran c.run_last_beside.ensures.counts in
+    (tt, tt, still-at-work c.args.program.now c.args.seat.now c.run_last_beside.new.seat c.run_last_beside.result c.if-not-run_last_beside.false has c.run_last_beside.ensures.idle)
