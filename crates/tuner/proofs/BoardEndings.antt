@@ -1,7 +1,6 @@
 -- How a call ends that runs a task, by what holds of its board.
 use Rattle.std.proofs.Common.{ℕ, ◌≡◌, ◌<◌, List, length, Option, Some, refl, sym, subst}
 use Rattle.std.specs.Prelude.{IsSome, IsSomeAnd, slice_get}
-use Rattle.std.specs.List.{Contains}
 use Rattle.objective.specs.Costs.{Table}
 use Rattle.objective.specs.declared.Outcome.{Outcome}
 use Rattle.wrapper_lines.specs.declared.runs.Key.{Key}
@@ -24,7 +23,6 @@ use Rattle.board_steps.specs.BoardInvariant.{BoardInvariant}
 use Rattle.board_steps.specs.Boards.{BoardState, plain}
 use Rattle.board_steps.specs.declared.tickets.Ticket.{Ticket}
 use Rattle.board_steps.specs.JournalRuns.{run_of}
-use Rattle.board_steps.specs.Ledgers.{take_event}
 use Rattle.board_steps.specs.Problem.{Problem}
 use Rattle.board_steps.specs.ProblemRuns.{table_of}
 use Rattle.board_steps.specs.RepliedAsks.{quiet_by}
@@ -39,9 +37,11 @@ use Rattle.tuner.specs.Calls.{Call}
 use Rattle.tuner.specs.CallStarts.{StartsOf}
 use Rattle.tuner.specs.Lines.{lines_with, all_lines, aborted_line, child_fault_line, no_memory_line}
 use Rattle.tuner.specs.PrintedTexts.{Reported, after_entries}
-use Rattle.tuner.specs.Promises.{Conducted, KeepsFault, Runs}
+use Rattle.tuner.specs.Conducted.{Conducted, Runs}
+use Rattle.tuner.specs.ReadyToDrive.{IsBoardOf, KeepsFault}
 use Rattle.tuner.specs.SearchEnds.{IsSearched, IsTrajectoryOf, IsStoppedSearch, AreFirst}
-use Rattle.tuner.specs.Tasks.{IsProcedureOf, procedure_of, quiet_run, asks_over, ask_over}
+use Rattle.tuner.specs.SeatsTogether.{IsTakenIn}
+use Rattle.tuner.specs.Tasks.{procedure_of, quiet_run, asks_over, ask_over}
 use Rattle.tuner.specs.declared.status.Status.{Status}
 use Rattle.tuner.specs.declared.status.Status.TheVariants as status
 use Rattle.tuner.specs.declared.task.Task.{Task}
@@ -64,7 +64,7 @@ abbrev task_on : Task → Problem → Task
 task_on task problem = record { program = task.program; approach = task.approach; problem = problem }
 
 module _ (call : Call) (task : Task) (truth : Option (Key → Outcome)) (shown : Rules → List Reply → View) (procedure : Rules → Table → Run)
-    (uncapped_is : IsProcedureOf task.approach procedure) (b : BoardState) (same : b.problem ≡ task.problem) (runs : Runs call task truth)
+    (b : BoardState) (is_board : IsBoardOf task procedure b) (runs : Runs call task truth)
     (out out' : SinkTold) (result : Status) where
   -- the board's task
   abbrev own : Task
@@ -76,7 +76,7 @@ module _ (call : Call) (task : Task) (truth : Option (Key → Outcome)) (shown :
 
   -- the call runs it
   runs_own : Runs call own truth
-  runs_own = subst (λ p. Runs call (task_on task p) truth) (sym same) runs
+  runs_own = subst (λ p. Runs call (task_on task p) truth) (sym is_board.problem) runs
 
   -- the search made all comparisons
   pub finished_call : StartsOf call status.Ok → IsSearched b.problem.rules view.entries view.last
@@ -84,7 +84,7 @@ module _ (call : Call) (task : Task) (truth : Option (Key → Outcome)) (shown :
       → Reported out out' result status.Ok (all_lines b.problem.rules.space view.entries view.last) → Conducted call out out' result
   finished_call starts searched shows said =
       let F : Option (Key → Outcome) → Type 0 = λ t. IsTrajectoryOf own t view.entries view.last in
-      let trajectory = subst F (sym runs.tells) (is_trajectory own truth procedure uncapped_is view searched shows) in
+      let trajectory = subst F (sym runs.tells) (is_trajectory own truth procedure is_board.procedure view searched shows) in
       reported call out out' result status.Ok _
       (record {
         task = own;
@@ -112,7 +112,7 @@ module _ (call : Call) (task : Task) (truth : Option (Key → Outcome)) (shown :
               let here : A (question_of view.ask) = aborts_at limits T view.ask cell at.within (told-abort shown procedure truth b cell is some inv) in
               let there : A (slice_get (quiet_by procedure truth b.problem).asks (length b.replies)) =
               subst A (present-ask procedure truth shown follows (plain b) inv.ruled (inv.replies some)) here in
-              subst B (quiet_is own truth procedure uncapped_is) there;
+              subst B (quiet_is own truth procedure is_board.procedure) there;
         }
 
     -- a child aborted the search
@@ -123,7 +123,7 @@ module _ (call : Call) (task : Task) (truth : Option (Key → Outcome)) (shown :
     aborted_call cell is asked shows said =
         let F : Option (Key → Outcome) → Type 0 = λ t. IsStoppedSearch own t view.entries in
         let G : Option (Key → Outcome) → Type 0 = λ t. IsAbort b.problem t (ask_over t own (length b.replies)) cell in
-        let stopped : F call.truth = subst F (sym runs.tells) (is_stopped own truth procedure uncapped_is view shows) in
+        let stopped : F call.truth = subst F (sym runs.tells) (is_stopped own truth procedure is_board.procedure view shows) in
         reported call out out' result (status.Aborted cell) _
         (record { task = own; run = runs_own.run; number = length b.replies; abort = subst G (sym runs.tells) (abort_on cell is asked); ended = stopped.aborted })
         tt
@@ -136,28 +136,28 @@ module _ (call : Call) (task : Task) (truth : Option (Key → Outcome)) (shown :
       first_so_far =
           let F : Option (Key → Outcome) → Type 0 = λ t. AreFirst own t view.entries in
           let G : Run → Type 0 = λ r. Grows view.entries (entries_of r) in
-          subst F (sym runs.tells) (λ some. subst G (quiet_is own truth procedure uncapped_is) (told-entries shown procedure truth follows steady b some inv))
+          subst F (sym runs.tells) (λ some. subst G (quiet_is own truth procedure is_board.procedure) (told-entries shown procedure truth follows steady b some inv))
 
       -- there is no memory left
       pub short_call : Reported out out' result status.NoMemory (lines_with b.problem.rules.space view.entries no_memory_line) → Conducted call out out' result
       short_call said =
           reported call out out' result status.NoMemory _ tt tt (after_entries own view.entries runs_own.run.stated first_so_far refl) said
 
-      module _ (t : Ticket) (taken : Contains b.journal (take_event t)) (asked : IsAskedTicket task.problem t) where
+      module _ (t : Ticket) (taken : IsTakenIn task.problem b.journal t) where
         -- the run of a ticket that was taken is due at its place
         due_on : IsSome truth → IsDueTicket b.problem.rules.limits (table_of truth b.problem) (asks_over truth own) t
         unfolding plain
         due_on some answer =
             let D : Run → Type 0 = λ r. IsDue b.problem.rules.limits (table_of truth b.problem) r.asks t.place (run_of t answer) in
-            subst D (quiet_is own truth procedure uncapped_is) (due-taken procedure truth (plain b) t answer taken asked.asked (inv.due some))
+            subst D (quiet_is own truth procedure is_board.procedure) (due-taken procedure truth (plain b) t answer taken.taken taken.asked.asked (inv.due some))
 
         -- the entries before its ask are shown
         before_on : IsSome truth → Grows (entries_before (quiet_run truth own) t.place) view.entries
         unfolding plain
         before_on some =
             let G : Run → Type 0 = λ r. Grows (entries_before r t.place) view.entries in
-            subst G (quiet_is own truth procedure uncapped_is)
-            (earlier-entries-shown procedure truth shown follows steady (plain b) t.place (place-taken procedure truth (plain b) t taken (inv.due some)) inv.ruled (inv.replies some))
+            subst G (quiet_is own truth procedure is_board.procedure)
+            (earlier-entries-shown procedure truth shown follows steady (plain b) t.place (place-taken procedure truth (plain b) t taken.taken (inv.due some)) inv.ruled (inv.replies some))
 
         -- the run of a seat's kept ticket failed
         pub faulted_call : (seat : ℕ) → KeepsFault call task seat t
@@ -166,12 +166,12 @@ module _ (call : Call) (task : Task) (truth : Option (Key → Outcome)) (shown :
         faulted_call seat keeps said =
             let D : Option (Key → Outcome) → Type 0 = λ o. IsSome o → IsDueTicket b.problem.rules.limits (table_of o b.problem) (asks_over o own) t in
             let E : Option (Key → Outcome) → Type 0 = λ o. IsSome o → Grows (entries_before (quiet_run o own) t.place) view.entries in
-            let mine : IsAskedTicket b.problem t = subst (λ p. IsAskedTicket p t) (sym same) asked in
+            let mine : IsAskedTicket b.problem t = subst (λ p. IsAskedTicket p t) (sym is_board.problem) taken.asked in
             reported call out out' result (status.ChildFault seat) _
             (record {
               task = own;
               run = runs_own.run;
-              one = subst (λ p. seat < p.rules.workers) (sym same) keeps.one;
+              one = subst (λ p. seat < p.rules.workers) (sym is_board.problem) keeps.one;
               ticket = t;
               before = keeps.before;
               after = keeps.after;

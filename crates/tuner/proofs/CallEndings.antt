@@ -15,7 +15,8 @@ use Rattle.tuner.specs.Calls.{Call, StatesTask, IsSeated}
 use Rattle.tuner.specs.Causes.{IsBadFile, IsUnread}
 use Rattle.tuner.specs.Lines.{seats_line}
 use Rattle.tuner.specs.PrintedTexts.{Reported}
-use Rattle.tuner.specs.Promises.{Conducted, IsAbout, HasSeat, Runs}
+use Rattle.tuner.specs.Conducted.{Conducted, IsAbout, Runs}
+use Rattle.tuner.specs.ReadyToDrive.{HasSeat}
 use Rattle.tuner.specs.Readings.{Reading, Reads, Bad, words_reading, file_by, task_by, ◌>>=◌}
 use Rattle.tuner.specs.Refusals.{IsCause, IsNext, ReportsMisuse, ReportsRefusal}
 use Rattle.tuner.specs.declared.reading.refusal.Refusal.{Refusal}

@@ -1,5 +1,5 @@
 -- What a seat that drove a task's board started, and the ticket that it keeps.
-use Rattle.std.proofs.Common.{◌≡◌, ◌≤◌, Bool, false, arith, List, [], ◌∷◌, ◌++◌, All, map, filter, Option, Some, refl, sym, ap, subst, ◌∙◌, append-nil}
+use Rattle.std.proofs.Common.{◌≡◌, ◌≤◌, Bool, arith, List, [], ◌∷◌, ◌++◌, All, map, filter, Option, Some, refl, sym, ap, subst, ◌∙◌, append-nil}
 use Rattle.std.specs.Prelude.{IfSome, IsSome, IsSomeAnd}
 use Rattle.std.specs.List.{Contains}
 use Rattle.std.proofs.lemmas.List.Elements.{All-contains, All-contains_itself, All-filter, Contains-append_right, Contains-push}
@@ -25,8 +25,8 @@ use Rattle.pool_run.specs.Starts.{HasStarted}
 use Rattle.pool_run.specs.Turns.{is_take}
 use Rattle.tuner.specs.Calls.{Call}
 use Rattle.tuner.specs.CallStarts.{RanDue, StartsOf}
-use Rattle.tuner.specs.Promises.{HasSeat, KeepsFault, Runs}
-use Rattle.tuner.specs.SeatsTogether.{IsReady, IsTakenIn}
+use Rattle.tuner.specs.ReadyToDrive.{DrivesOn, KeepsFault}
+use Rattle.tuner.specs.SeatsTogether.{IsTakenIn}
 use Rattle.tuner.specs.Tasks.{IsProcedureOf}
 use Rattle.tuner.specs.declared.status.Status.TheVariants as status
 use Rattle.tuner.specs.declared.task.Task.{Task}
@@ -41,17 +41,17 @@ left_is : (seat : SeatState) (left : List Ticket) (t : Ticket) → fault_of seat
 left_is seat left t kept h = subst (λ o. IsSomeAnd o (λ kept. left ≡ kept ∷ [])) kept h
 
 -- the first seat of a call drove a board, and keeps this ticket, whose run failed
-pub keeps_fault : (call : Call) (task : Task) (before seat after : SeatState) (t : Ticket) → IsReady task before seat
-    → 1 ≤ task.problem.rules.workers → HasSeat call 0 before after → fault_of after ≡ Some t → IfSome (fault_of after) (IsFault seat.told after.told)
-    → KeepsFault call task 0 t
-keeps_fault call task before seat after t ready some first kept fault =
+pub keeps_fault : (call : Call) (task : Task) (truth : Option (Key → Outcome)) (seat after : SeatState) (t : Ticket)
+    → DrivesOn call task truth seat after → 1 ≤ task.problem.rules.workers → fault_of after ≡ Some t
+    → IfSome (fault_of after) (IsFault seat.told after.told) → KeepsFault call task 0 t
+keeps_fault call task truth seat after t drives some kept fault =
     let here : IsFault seat.told after.told t = subst (λ o. IfSome o (IsFault seat.told after.told)) kept fault in
-    let counts = ready.counts in
+    let counts = drives.ready.counts in
     record {
       one = omega (arith, some);
-      before = before;
+      before = drives.before;
       after = after;
-      seat = first;
+      seat = drives.first;
       kept = kept;
       fault = record { asked = here.asked; failed = here.failed; rose = omega (arith, here.rose, counts) };
     }
@@ -95,19 +95,27 @@ module _ (procedure : Rules → Table → Run) (truth : Option (Key → Outcome)
         }
 
     -- the starts of a call whose first seat drove the board to its end, without tickets where it is the only one
-    pub started_call : (call : Call) (before seat seat' : SeatState) → IsReady task before seat → (task.problem.rules.workers ≡ 1 → seat.tickets ≡ [])
-        → HasDriven procedure truth task.program Ended board board' seat seat' → Runs call task truth → HasSeat call 0 before seat' → StartsOf call status.Ok
-    started_call call before seat seat' ready cleared h runs first =
-        let F : Option (Key → Outcome) → Type 0 = λ t. RanDue task t before seat' in
-        let start : task.problem.rules.workers ≡ 1 → RanDue task truth before seat' = λ one.
+    pub started_call : (call : Call) (seat seat' : SeatState) → DrivesOn call task truth seat seat' → (task.problem.rules.workers ≡ 1 → seat.tickets ≡ [])
+        → HasDriven procedure truth task.program Ended board board' seat seat' → StartsOf call status.Ok
+    started_call call seat seat' drives cleared h =
+        let F : Option (Key → Outcome) → Type 0 = λ t. RanDue task t drives.before seat' in
+        let start : task.problem.rules.workers ≡ 1 → RanDue task truth drives.before seat' = λ one.
         let here = ran seat seat' (cleared one) h in
         record {
           answered = here.answered;
           tickets = here.tickets;
           each = here.each;
-          started = subst (λ told. HasStarted task.program told seat'.told (map (λ a. a.ticket.run) here.answered)) (ready.same one) here.started;
+          started = subst (λ told. HasStarted task.program told seat'.told (map (λ a. a.ticket.run) here.answered)) (drives.ready.same one) here.started;
           rising = here.rising;
           shown = here.shown;
           due = here.due;
         } in
-        record { task = task; stated = runs.run.stated; before = before; after = seat'; was = first.was; is = first.is; ran = λ one. subst F (sym runs.tells) (start one) }
+        record {
+          task = task;
+          stated = drives.runs.run.stated;
+          before = drives.before;
+          after = seat';
+          was = drives.first.was;
+          is = drives.first.is;
+          ran = λ one. subst F (sym drives.runs.tells) (start one);
+        }

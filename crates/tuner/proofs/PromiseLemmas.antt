@@ -22,7 +22,8 @@ use Rattle.tuner.specs.CallStarts.{StartsDue, StartsOf}
 use Rattle.tuner.specs.Causes.{CauseOf, IsBadFile, IsTooFew}
 use Rattle.tuner.specs.Lines.{all_lines, end_line, output_of, usage_line, bad_file_line, read_fault_line, seats_line, no_memory_line, aborted_line, child_fault_line}
 use Rattle.tuner.specs.PrintedTexts.{IsSearchText, IsAbortedText, IsNoMemoryText, alone, after_entries, IsTextOf, Said, whole, unwritten, no_memory, Ending}
-use Rattle.tuner.specs.Promises.{Conducted, IsPrinted, IsUnabortedOutput, IsAbortedOutput, AbortSentence, PrintsFirst, none, some, begins_with_letter, is_unsaid, yields, RefusesFaulty, RefusesUnseated, NoSeatFails, IsComplete}
+use Rattle.tuner.specs.Conducted.{Conducted}
+use Rattle.tuner.specs.Promises.{IsPrinted, IsUnabortedOutput, IsAbortedOutput, AbortSentence, PrintsFirst, none, some, begins_with_letter, is_unsaid, yields, RefusesFaulty, RefusesUnseated, NoSeatFails, IsComplete}
 use Rattle.tuner.specs.Readings.{Reading, Reads, Misused, Bad, words_reading, task_by, problem_of, ◌>>=◌}
 use Rattle.tuner.specs.SearchEnds.{RanTo}
 use Rattle.tuner.specs.Tasks.{procedure_of, true_run}

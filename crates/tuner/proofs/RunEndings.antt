@@ -1,5 +1,5 @@
 -- How a call ends that runs a task, by how its board ends.
-use Rattle.std.proofs.Common.{ℕ, ◌≡◌, ◌≤◌, List, Option, refl, sym, ap, subst, ◌∙◌, arith}
+use Rattle.std.proofs.Common.{ℕ, ◌≡◌, ◌≤◌, true, inl, inr, List, Option, refl, sym, ap, subst, ◌∙◌, arith}
 use Rattle.std.specs.Prelude.{IsSome, IsSomeAnd}
 use Rattle.objective.specs.Bounds.{Bounds}
 use Rattle.objective.specs.Costs.{Table}
@@ -28,8 +28,9 @@ use Rattle.tuner.specs.Calls.{Call}
 use Rattle.tuner.specs.CallStarts.{StartsOf}
 use Rattle.tuner.specs.Causes.{CauseOf}
 use Rattle.tuner.specs.Lines.{no_memory_line}
-use Rattle.tuner.specs.PrintedTexts.{Said, Reported, made, not_made, IsTextOf, alone}
-use Rattle.tuner.specs.Promises.{Conducted}
+use Rattle.tuner.specs.PrintedTexts.{Said, whole, unwritten, no_memory, Reported, made, not_made, IsTextOf, alone}
+use Rattle.tuner.specs.Conducted.{Conducted}
+use Rattle.tuner.specs.Promises.{EndsAs, is_unsaid}
 use Rattle.tuner.specs.SearchEnds.{IsSearched, RanTo, IsTrajectoryOf, IsStoppedSearch}
 use Rattle.tuner.specs.Tasks.{IsProcedureOf, true_run, quiet_run}
 use Rattle.tuner.specs.declared.status.Status.{Status}
@@ -47,6 +48,29 @@ pub reported : (call : Call) (out out' : SinkTold) (result end : Status) (text :
 reported call out out' result end text cause starts wanted (made said) =
     record { end = end; text = text; cause = cause; starts = starts; wanted = wanted; said = said }
 reported call out out' result end text cause starts wanted (not_made said) = without_memory call out out' result said
+
+-- ---- the answers of calls
+
+-- a text is said with the answer that it is for, or one that any call may have
+said_as : (out out' : SinkTold) (end result : Status) (text : List ℕ) → Said out out' end result text → EndsAs end result
+said_as out out' end result text (whole is took) = inl is
+said_as out out' end result text (unwritten is part badly) = inr (ap is_unsaid is)
+said_as out out' end result text (no_memory is part) = inr (ap is_unsaid is)
+
+-- where that is one that any call may have, so is the answer
+unsaid_as : (end result : Status) → is_unsaid end ≡ true → EndsAs end result → is_unsaid result ≡ true
+unsaid_as end result unsaid (inl is) = ap is_unsaid is ∙ unsaid
+unsaid_as end result unsaid (inr is) = is
+
+-- so is a text that was to be made
+pub reported_as : (out out' : SinkTold) (result end : Status) (text : List ℕ) → Reported out out' result end text → EndsAs end result
+reported_as out out' result end text (made said) = said_as out out' end result text said
+reported_as out out' result end text (not_made said) =
+    inr (unsaid_as status.NoMemory result refl (said_as out out' status.NoMemory result no_memory_line said))
+
+-- want of memory is said with an answer that any call may have
+pub reported_unsaid : (out out' : SinkTold) (result : Status) (text : List ℕ) → Reported out out' result status.NoMemory text → is_unsaid result ≡ true
+reported_unsaid out out' result text h = unsaid_as status.NoMemory result refl (reported_as out out' result status.NoMemory text h)
 
 -- ---- what is shown, by the uncapped procedure
 

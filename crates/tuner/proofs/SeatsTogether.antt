@@ -1,20 +1,23 @@
 -- What seats that worked beside each other come to, seat by seat.
-use Rattle.std.proofs.Common.{arith, ℕ, zero, suc, ◌≡◌, ◌<◌, ◌≤◌, ◌++◌, ◌||◌, Bool, true, false, List, [], ◌∷◌, length, get_or, set, nat_lt, Option, Some, None, refl, sym, ap, subst, ◌∙◌, if◌then◌else◌}
+use Rattle.std.proofs.Common.{arith, ℕ, zero, suc, ◌≡◌, ◌<◌, ◌≤◌, ◌++◌, ◌||◌, Bool, true, false, List, [], ◌∷◌, length, get_or, set, take, nat_lt, Option, Some, None, refl, sym, ap, subst, ◌∙◌, if◌then◌else◌}
 use Rattle.std.specs.Prelude.{IfSome, IsSomeAnd, slice_get}
 use Rattle.std.specs.List.{AllZip}
 use Rattle.std.proofs.lemmas.Bool.{ltb-false}
+use Rattle.std.proofs.lemmas.List.Elements.{All-head, All-tail}
 use Rattle.objective.specs.declared.Outcome.{Outcome}
 use Rattle.wrapper_lines.specs.declared.runs.Key.{Key}
 use Rattle.outside.specs.ToldStates.{SpawnerTold}
 use Rattle.board_steps.specs.Boards.{BoardState, PlainBoard, plain}
 use Rattle.board_steps.specs.declared.tickets.LiveTicket.{LiveTicket}
 use Rattle.board_steps.specs.declared.tickets.Ticket.{Ticket}
+use Rattle.board_steps.specs.Problem.{Problem}
 use Rattle.board_steps.specs.Steps.{after_resume, resumed_board}
 use Rattle.pool_run.specs.Seats.{SeatState, IsFault, fault_of}
 use Rattle.tuner.specs.Calls.{Call}
 use Rattle.tuner.specs.CallStarts.{StartsOf}
-use Rattle.tuner.specs.Promises.{HasSeat, IsAbout, KeepsFault, Runs}
-use Rattle.tuner.specs.SeatsTogether.{HasWorkedOn, HasSeats, IsReady}
+use Rattle.tuner.specs.Conducted.{IsAbout, Runs}
+use Rattle.tuner.specs.ReadyToDrive.{DrivesOn, HasSeat, IsFree, KeepsFault}
+use Rattle.tuner.specs.SeatsTogether.{AreSeatsOf, HasWorkedOn, IsFirst, IsTakenIn, KeepsTaken, RunsOn, RunsWorked}
 use Rattle.tuner.specs.declared.status.Status.TheVariants as status
 use Rattle.tuner.specs.declared.task.Task.{Task}
 
@@ -68,73 +71,100 @@ get_at (z ∷ xs) (suc k) x P there is = get_at xs k x P there is
 
 -- ---- the seats of a call
 
--- a seat keeps a ticket whose run failed
-pub keeps : (call : Call) (task : Task) (before after : List SeatState) (k : ℕ) (s : SeatState) (t : Ticket) → AllZip HasWorkedOn before after
-    → HasSeats call before after → length after ≡ task.problem.rules.workers → slice_get after k ≡ Some s → fault_of s ≡ Some t → KeepsFault call task k t
-keeps call task before after k s t all has sized is kept =
-    let b = beside HasWorkedOn before after all k s is in
+-- a seat of a call keeps a ticket whose run failed
+keeps : (call : Call) (task : Task) (truth : Option (Key → Outcome)) (seats after : List SeatState) (k : ℕ) (s : SeatState) (t : Ticket)
+    → RunsWorked call task truth seats after → AreSeatsOf task seats → slice_get seats k ≡ Some s → slice_get after k ≡ Some s → fault_of s ≡ Some t
+    → KeepsFault call task k t
+keeps call task truth seats after k s t h sized is stays kept =
+    let b = beside HasWorkedOn h.before seats h.worked k s is in
     let F : Option Ticket → Type 0 = λ o. IfSome o (IsFault b.one.told s.told) in
+    let all = sized.all in
     record {
-      one = omega (arith, within after k s is, sized);
+      one = omega (arith, within seats k s is, all);
       before = b.one;
       after = s;
-      seat = record { was = has.was k b.one b.was; is = has.is k s is };
+      seat = record { was = h.on.has.was k b.one b.was; is = h.on.has.is k s stays };
       kept = kept;
       fault = subst F kept b.holds.fault;
     }
 
--- a seat at a place keeps one
-pub keeps_at : (call : Call) (task : Task) (before after : List SeatState) (k : ℕ) (s : SeatState) (t : Ticket) (P : SeatState → Type 0)
-    → AllZip HasWorkedOn before after → HasSeats call before after → length after ≡ task.problem.rules.workers → IsSomeAnd (slice_get after k) P
-    → s ≡ get_or after k s → fault_of s ≡ Some t → KeepsFault call task k t
-keeps_at call task before after k s t P all has sized there is kept =
-    keeps call task before after k s t all has sized (get_at after k s P there is) kept
+-- the seat at a place keeps one
+pub keeps_at : (call : Call) (task : Task) (truth : Option (Key → Outcome)) (seats : List SeatState) (k : ℕ) (s : SeatState) (t : Ticket)
+    (P : SeatState → Type 0) → RunsWorked call task truth seats seats → AreSeatsOf task seats → IsSomeAnd (slice_get seats k) P
+    → s ≡ get_or seats k s → fault_of s ≡ Some t → KeepsFault call task k t
+keeps_at call task truth seats k s t P h sized there is kept =
+    let stands = get_at seats k s P there is in
+    keeps call task truth seats seats k s t h sized stands stands kept
+
+-- the board gave the ticket that the seat at a place keeps
+pub taken_at : (b : BoardState) (problem : Problem) (seats : List SeatState) (k : ℕ) (s : SeatState) (t : Ticket) → b.problem ≡ problem
+    → IsSomeAnd (slice_get seats k) (KeepsTaken b) → s ≡ get_or seats k s → fault_of s ≡ Some t → IsTakenIn problem b.journal t
+taken_at b problem seats k s t same there is kept =
+    let F : Option SeatState → Type 0 = λ o. IsSomeAnd o (KeepsTaken b) in
+    let G : Option Ticket → Type 0 = λ o. IsSomeAnd o (IsTakenIn b.problem b.journal) in
+    let here : KeepsTaken b s = subst F (get_at seats k s (KeepsTaken b) there is) there in
+    let taken : IsTakenIn b.problem b.journal t = subst G kept here in
+    subst (λ (p : Problem). IsTakenIn p b.journal t) same taken
 
 -- of the starts of several seats nothing is promised
-pub starts_together : (call : Call) (task : Task) (truth : Option (Key → Outcome)) (before after : List SeatState) → Runs call task truth
-    → AllZip HasWorkedOn before after → HasSeats call before after → length after ≡ task.problem.rules.workers → 1 < task.problem.rules.workers
-    → StartsOf call status.Ok
-starts_together call task truth [] [] runs all has sized several = absurd (omega (arith, sized, several))
-starts_together call task truth [] (a ∷ later) runs all has sized several = absurd all
-starts_together call task truth (b ∷ rest) [] runs all has sized several = absurd all
-starts_together call task truth (b ∷ rest) (a ∷ later) runs all has sized several = record {
-  task = task;
-  stated = runs.run.stated;
-  before = b;
-  after = a;
-  was = has.was 0 b refl;
-  is = has.is 0 a refl;
-  ran = λ one. absurd (omega (arith, one, several));
-}
+pub starts_together : (call : Call) (task : Task) (truth : Option (Key → Outcome)) (seats : List SeatState)
+    → RunsWorked call task truth seats seats → AreSeatsOf task seats → StartsOf call status.Ok
+starts_together call task truth seats h sized = by h.before seats h.worked sized.all h.on.has.was h.on.has.is
+  where
+    by : (before after : List SeatState) → AllZip HasWorkedOn before after → length after ≡ task.problem.rules.workers
+        → ((k : ℕ) (s : SeatState) → slice_get before k ≡ Some s → slice_get call.seats k ≡ Some s)
+        → ((k : ℕ) (s : SeatState) → slice_get after k ≡ Some s → slice_get call.seats' k ≡ Some s) → StartsOf call status.Ok
+    by [] [] all same was is = absurd (let several = sized.several in omega (arith, same, several))
+    by [] (a ∷ later) all same was is = absurd all
+    by (b ∷ rest) [] all same was is = absurd all
+    by (b ∷ rest) (a ∷ later) all same was is = record {
+      task = task;
+      stated = h.on.runs.run.stated;
+      before = b;
+      after = a;
+      was = was 0 b refl;
+      is = is 0 a refl;
+      ran = λ one. absurd (let several = sized.several in omega (arith, one, several));
+    }
 
--- the first seat before a call and after it, which drives a board of it on
-pub record FirstSeat (call : Call) (task : Task) (seat after : SeatState) : Type 0 where
-  pub before : SeatState
-  pub ready : IsReady task before seat
-  pub has : HasSeat call 0 before after
+-- the first of several seats drives a board on
+pub first_drives : (call : Call) (task : Task) (truth : Option (Key → Outcome)) (seats : List SeatState) (d after : SeatState)
+    → RunsWorked call task truth seats (set seats 0 after) → AreSeatsOf task seats → DrivesOn call task truth (get_or seats 0 d) after
+first_drives call task truth seats d after h sized = by h.before seats h.worked sized.all h.on.has.was h.on.has.is
+  where
+    by : (before seats : List SeatState) → AllZip HasWorkedOn before seats → length seats ≡ task.problem.rules.workers
+        → ((k : ℕ) (s : SeatState) → slice_get before k ≡ Some s → slice_get call.seats k ≡ Some s)
+        → ((k : ℕ) (s : SeatState) → slice_get (set seats 0 after) k ≡ Some s → slice_get call.seats' k ≡ Some s)
+        → DrivesOn call task truth (get_or seats 0 d) after
+    by [] [] all same was is = absurd (let several = sized.several in omega (arith, same, several))
+    by [] (s ∷ later) all same was is = absurd all
+    by (b ∷ rest) [] all same was is = absurd all
+    by (b ∷ rest) (s ∷ later) all same was is = record {
+      runs = h.on.runs;
+      before = b;
+      ready = record { counts = all.0.counts; same = λ one. absurd (let several = sized.several in omega (arith, one, several)) };
+      first = record { was = was 0 b refl; is = is 0 after refl };
+    }
 
-pub first_seat : (call : Call) (task : Task) (before seats : List SeatState) (d after : SeatState) → AllZip HasWorkedOn before seats → 0 < length seats
-    → 1 < task.problem.rules.workers → HasSeats call before (set seats 0 after) → FirstSeat call task (get_or seats 0 d) after
-first_seat call task [] [] d after all some several has = absurd (omega (arith, some))
-first_seat call task [] (s ∷ later) d after all some several has = absurd all
-first_seat call task (b ∷ rest) [] d after all some several has = absurd all
-first_seat call task (b ∷ rest) (s ∷ later) d after all some several has = record {
-  before = b;
-  ready = record { counts = all.0.counts; same = λ one. absurd (omega (arith, one, several)) };
-  has = record { was = has.was 0 b refl; is = has.is 0 after refl };
-}
+-- the only seat of a call drives
+pub only_drives : (call : Call) (task : Task) (truth : Option (Key → Outcome)) (seat after : SeatState) → Runs call task truth
+    → HasSeat call 0 seat after → DrivesOn call task truth seat after
+only_drives call task truth seat after runs first =
+    record { runs = runs; before = seat; ready = record { counts = omega arith; same = λ one. refl }; first = first }
 
--- a seat is ready as it is
-pub ready_itself : (task : Task) (seat : SeatState) → IsReady task seat seat
-ready_itself task seat = record { counts = omega arith; same = λ one. refl }
-
--- a seat that was cleared is ready as it was before
-pub ready_cleared : (task : Task) (before seat cleared : SeatState) → cleared ≡ record { told = seat.told; tickets = []; failed = false; short = false }
-    → IsReady task before seat → IsReady task before cleared
-ready_cleared task before seat cleared clear ready =
+-- a seat that was cleared drives as it would before
+pub cleared_drives : (call : Call) (task : Task) (truth : Option (Key → Outcome)) (seat cleared after : SeatState)
+    → cleared ≡ record { told = seat.told; tickets = []; failed = false; short = false } → DrivesOn call task truth seat after
+    → DrivesOn call task truth cleared after
+cleared_drives call task truth seat cleared after clear h =
     let told : cleared.told ≡ seat.told = ap (λ (s : SeatState). s.told) clear in
-    let F : SpawnerTold → Type 0 = λ now. before.told.faults ≤ now.faults in
-    record { counts = subst F (sym told) ready.counts; same = λ one. told ∙ ready.same one }
+    let F : SpawnerTold → Type 0 = λ now. h.before.told.faults ≤ now.faults in
+    record {
+      runs = h.runs;
+      before = h.before;
+      ready = record { counts = subst F (sym told) h.ready.counts; same = λ one. told ∙ h.ready.same one };
+      first = h.first;
+    }
 
 -- an element of a first part is one of the whole
 front_get : {X : Type 0} (xs ys : List X) (k : ℕ) (x : X) → slice_get xs k ≡ Some x → slice_get (xs ++ ys) k ≡ Some x
@@ -143,11 +173,15 @@ front_get (z ∷ xs) ys zero x is = is
 front_get (z ∷ xs) ys (suc k) x is = front_get xs ys k x is
 
 -- the seats that a call's task asks for are its first ones
-pub has_seats : (call : Call) (task : Task) (truth : Option (Key → Outcome)) (seats seats' front back after : List SeatState)
-    → IsAbout call task truth seats seats' → seats ≡ front ++ back → seats' ≡ after ++ back → HasSeats call front after
-has_seats call task truth seats seats' front back after h old new = record {
-  was = λ k s is. ap (λ ss. slice_get ss k) (h.was ∙ old) ∙ front_get front back k s is;
-  is = λ k s is. ap (λ ss. slice_get ss k) (h.is ∙ new) ∙ front_get after back k s is;
+pub runs_on : (call : Call) (task : Task) (truth : Option (Key → Outcome)) (seats seats' front back after : List SeatState)
+    → IsAbout call task truth seats seats' → Runs call task truth → seats ≡ front ++ back → seats' ≡ after ++ back
+    → RunsOn call task truth front after
+runs_on call task truth seats seats' front back after h runs old new = record {
+  runs = runs;
+  has = record {
+    was = λ k s is. ap (λ ss. slice_get ss k) (h.was ∙ old) ∙ front_get front back k s is;
+    is = λ k s is. ap (λ ss. slice_get ss k) (h.is ∙ new) ∙ front_get after back k s is;
+  };
 }
 
 -- the seats have no child
@@ -185,6 +219,24 @@ pub resumed : (b b' : BoardState) → plain b' ≡ after_resume (plain b) → Is
 resumed b b' e = let P : PlainBoard → Type 0 = λ c. IsResumed (plain b) c in subst P (sym e) (resumes (plain b))
 
 -- what it is then
-pub goes_on : (b b' : BoardState) → IsResumed (plain b) (plain b') → (b'.problem ≡ b.problem) × (b'.live ≡ []) × (b'.stopped ≡ false)
+pub goes_on : (b b' : BoardState) → IsResumed (plain b) (plain b') → (b'.problem ≡ b.problem) × IsFree b'
 unfolding plain
-goes_on b b' is = (is.problem, is.free, is.going)
+goes_on b b' is = (is.problem, record { free = is.free; going = is.going })
+
+-- ---- the first of a list
+
+-- there is one first at most
+pub first_once : {X : Type 0} (P : X → Type 0) (xs : List X) (j k : ℕ) → IsFirst P xs (Some j) → IsFirst P xs (Some k) → j ≡ k
+first_once P [] j k one other = absurd one.0
+first_once P (x ∷ xs) zero zero one other = refl
+first_once P (x ∷ xs) zero (suc k) one other = absurd (All-head (λ y. ¬ P y) x (take k xs) other.1 one.0)
+first_once P (x ∷ xs) (suc j) zero one other = absurd (All-head (λ y. ¬ P y) x (take j xs) one.1 other.0)
+first_once P (x ∷ xs) (suc j) (suc k) one other =
+    ap suc (first_once P xs j k (one.0, All-tail (λ y. ¬ P y) x (take j xs) one.1) (other.0, All-tail (λ y. ¬ P y) x (take k xs) other.1))
+
+-- where there is none, none is the first
+pub first_none : {X : Type 0} (P : X → Type 0) (xs : List X) (k : ℕ) → IsFirst P xs None → IsFirst P xs (Some k) → ⊥
+first_none P [] k none one = one.0
+first_none P (x ∷ xs) zero none one = All-head (λ y. ¬ P y) x xs none one.0
+first_none P (x ∷ xs) (suc k) none one =
+    first_none P xs k (All-tail (λ y. ¬ P y) x xs none) (one.0, All-tail (λ y. ¬ P y) x (take k xs) one.1)

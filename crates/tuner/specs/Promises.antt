@@ -11,13 +11,10 @@ use Rattle.ils_face.specs.Aborts.{entries_of}
 use Rattle.ils_face.specs.Steady.{Grows}
 use Rattle.run_cache.specs.declared.cell.Cell.{Cell}
 use Rattle.board_steps.specs.ProblemRuns.{table_of}
-use Rattle.board_steps.specs.declared.tickets.Ticket.{Ticket}
-use Rattle.pool_run.specs.Seats.{SeatState, IsFault, fault_of}
-use Rattle.tuner.specs.CallStarts.{StartsDue, StartsOf}
-use Rattle.tuner.specs.Calls.{Call, call_of, IsMisused, StatesTask, IsSeated}
-use Rattle.tuner.specs.Causes.{CauseOf, IsRun}
+use Rattle.pool_run.specs.Seats.{SeatState}
+use Rattle.tuner.specs.CallStarts.{StartsDue}
+use Rattle.tuner.specs.Calls.{call_of, IsMisused, StatesTask, IsSeated}
 use Rattle.tuner.specs.Lines.{lines_with, all_lines, output_of, aborted_line}
-use Rattle.tuner.specs.PrintedTexts.{IsTextOf, Said}
 use Rattle.tuner.specs.Readings.{Reads, Bad, problem_of}
 use Rattle.tuner.specs.SearchEnds.{IsSearched, AreFirst}
 use Rattle.tuner.specs.Tasks.{true_run, quiet_run}
@@ -26,41 +23,6 @@ use Rattle.tuner.specs.declared.status.What.{What}
 use Rattle.tuner.specs.declared.status.Status.{Status}
 use Rattle.tuner.specs.declared.status.Status.TheVariants as status
 use Rattle.tuner.specs.declared.task.Task.{Task}
-
--- how a call was to end, why, what it had started and was to print then, and what came of it
-pub record Conducted (call : Call) (out out' : SinkTold) (result : Status) : Type 0 where
-  pub end : Status
-  pub text : List ℕ
-  pub cause : CauseOf call end
-  pub starts : StartsOf call end
-  pub wanted : IsTextOf call.words call.files call.truth call.seats' end text
-  pub said : Said out out' end result text
-
--- a call is of this task and these seats, which tell this truth
-pub record IsAbout (call : Call) (task : Task) (truth : Option (Key → Outcome)) (seats seats' : List SeatState) : Type 0 where
-  pub stated : StatesTask call.words call.files task
-  pub tells : call.truth ≡ truth
-  pub was : call.seats ≡ seats
-  pub is : call.seats' ≡ seats'
-
--- a call runs this task, and its seats tell this truth
-pub record Runs (call : Call) (task : Task) (truth : Option (Key → Outcome)) : Type 0 where
-  pub run : IsRun call task
-  pub tells : call.truth ≡ truth
-
--- a call has a seat with this number, which was so before it and is so after it
-pub record HasSeat (call : Call) (number : ℕ) (before after : SeatState) : Type 0 where
-  pub was : slice_get call.seats number ≡ Some before
-  pub is : slice_get call.seats' number ≡ Some after
-
--- one of the seats that a call's task asks for keeps this ticket, whose run failed
-pub record KeepsFault (call : Call) (task : Task) (number : ℕ) (t : Ticket) : Type 0 where
-  pub one : number < task.problem.rules.workers
-  pub before : SeatState
-  pub after : SeatState
-  pub seat : HasSeat call number before after
-  pub kept : fault_of after ≡ Some t
-  pub fault : IsFault before.told after.told t
 
 -- ---- the headline
 
@@ -146,6 +108,10 @@ is_unsaid (status.Aborted cell) = false
 is_unsaid (status.ChildFault seat) = false
 is_unsaid (status.TooFewSeats asked given) = false
 
+-- a call that is to end so ends so, or for want of memory or a failed write
+abbrev pub EndsAs : Status → Status → Type 0
+EndsAs end result = (result ≡ end) ⊎ IsTrue (is_unsaid result)
+
 -- an answer that any call that reads files may have: one of these, or a failed read
 abbrev pub yields : Status → Bool
 yields (status.ReadFault kind) = true
@@ -160,7 +126,7 @@ yields (status.TooFewSeats asked given) = false
 
 -- a wrong key word gives Usage, whatever the files are, where nothing else comes in between
 abbrev pub RefusesMisused : List (List ℕ) → Status → Type 0
-RefusesMisused words result = (place : ℕ) → IsMisused words place → (result ≡ status.Usage place) ⊎ IsTrue (is_unsaid result)
+RefusesMisused words result = (place : ℕ) → IsMisused words place → EndsAs (status.Usage place) result
 
 -- a file with a fault gives BadFile, where nothing else comes in between
 pub record RefusesFaulty (words : List (List ℕ)) (files : FilesTold) (result : Status) : Type 0 where
@@ -188,4 +154,4 @@ pub record IsComplete (words : List (List ℕ)) (files files' : FilesTold) (trut
       → files.contents ≡ Some contents → problem_of words contents ≡ Reads task → IsSeated (length seats) task
       → IsSome truth → NeverAborts task.problem.rules.limits (table_of truth task.problem)
       → ¬ Rose files.faults files'.faults → NoSeatFails seats seats'
-      → (result ≡ status.Ok) ⊎ IsTrue (is_unsaid result)
+      → EndsAs status.Ok result

@@ -1,9 +1,8 @@
 //! The board of a task is driven by one seat.
-ghost use Rattle.std.specs.Prelude.{◌≡◌, ◌≤◌, [], false, IsTrue, IfOk};
-ghost use Rattle.pool_run.specs.Seats.{SeatState};
+ghost use Rattle.std.specs.Prelude.{◌≡◌, [], IsTrue, IfOk};
 ghost use Rattle.tuner.specs.Calls.{Call};
-ghost use Rattle.tuner.specs.Promises.{Conducted, HasSeat, Runs};
-ghost use Rattle.tuner.specs.SeatsTogether.{IsReady};
+ghost use Rattle.tuner.specs.Conducted.{Conducted};
+ghost use Rattle.tuner.specs.ReadyToDrive.{DrivesOn, IsBoardOf, IsFree};
 ghost use Rattle.tuner.specs.Tasks.{IsProcedureOf};
 
 use crate::finishing::{report_ending, report_fault, report_no_memory};
@@ -25,8 +24,7 @@ pub(crate) fn open_board<P: Search, S: Spawner>(
     problem: &Problem,
 ) -> Result<Board<P, S>, Memory>
     ensures problem { IfOk result (λ b. b.problem ≡ problem.now) }
-    ensures free { IfOk result (λ b. b.live ≡ []) }
-    ensures going { IfOk result (λ b. b.stopped ≡ false) }
+    ensures free { IfOk result IsFree }
 {
     Board::open(alloc, problem.copy()?)
 }
@@ -41,16 +39,14 @@ pub(crate) fn drive_board<R: Wait, P: Search, O: Sink, S: Spawner>(
     seat: &mut Seat<S>,
 ) -> Status
     requires idle { IsTrue seat.old.told.idle }
-    requires procedure { IsProcedureOf task.now.approach P.plain }
-    requires some { 1 ≤ task.now.problem.rules.workers }
-    requires problem { board.old.problem ≡ task.now.problem }
-    requires free { board.old.live ≡ [] }
-    requires going { board.old.stopped ≡ false }
+    requires board { IsBoardOf task.now P.plain board.old }
+    requires free { IsFree board.old }
     requires cleared { task.now.problem.rules.workers ≡ 1 → seat.old.tickets ≡ [] }
     ensures idle { IsTrue seat.new.told.idle }
-    ensures ending { (call : Call) (before : SeatState) → Runs call task.now S.truth → IsReady task.now before seat.old
-        → HasSeat call 0 before seat.new → Conducted call (O.told out.old) (O.told out.new) result }
+    ensures ending { (call : Call) → DrivesOn call task.now S.truth seat.old seat.new
+        → Conducted call (O.told out.old) (O.told out.new) result }
 {
+    let _ = task.workers(); // one at least
     match drive(rt, board, &task.program, seat) {
         Driven::Ended => report_ending(alloc, task, board, out),
         Driven::Fault => match seat.fault() {
@@ -71,10 +67,9 @@ pub(crate) fn run_alone<R: Wait, P: Search, O: Sink, S: Spawner>(
 ) -> Status
     requires idle { IsTrue seat.old.told.idle }
     requires procedure { IsProcedureOf task.now.approach P.plain }
-    requires some { 1 ≤ task.now.problem.rules.workers }
     ensures idle { IsTrue seat.new.told.idle }
-    ensures ending { (call : Call) (before : SeatState) → Runs call task.now S.truth → IsReady task.now before seat.old
-        → HasSeat call 0 before seat.new → Conducted call (O.told out.old) (O.told out.new) result }
+    ensures ending { (call : Call) → DrivesOn call task.now S.truth seat.old seat.new
+        → Conducted call (O.told out.old) (O.told out.new) result }
 {
     seat.clear();
     match open_board::<P, S>(alloc, &task.problem) {

@@ -1,17 +1,17 @@
 //! How a board that was driven is printed.
 ghost use Rattle.std.specs.Prelude.{◌≡◌, ℕ, IsTrue, List, IfOk};
-ghost use Rattle.std.specs.List.{Contains};
 ghost use Rattle.param_space.specs.Space.{Belongs};
 ghost use Rattle.ils_face.specs.Steady.{IsAsk};
-ghost use Rattle.board_steps.specs.Ledgers.{take_event};
-ghost use Rattle.pool_run.specs.Drives.{IsAskedTicket, is_over};
+ghost use Rattle.pool_run.specs.Drives.{is_over};
 ghost use Rattle.tuner.specs.Calls.{Call};
 ghost use Rattle.tuner.specs.CallStarts.{StartsOf};
 ghost use Rattle.tuner.specs.Lines;
 ghost use Rattle.tuner.specs.PrintedTexts.{Reported};
-ghost use Rattle.tuner.specs.Promises.{Conducted, KeepsFault, Runs};
+ghost use Rattle.tuner.specs.Conducted.{Conducted, Runs};
+ghost use Rattle.tuner.specs.Promises.{EndsAs, is_unsaid};
+ghost use Rattle.tuner.specs.ReadyToDrive.{IsBoardOf, KeepsFault};
 ghost use Rattle.tuner.specs.SearchEnds.{IsSearched};
-ghost use Rattle.tuner.specs.Tasks.{IsProcedureOf};
+ghost use Rattle.tuner.specs.SeatsTogether.{IsTakenIn};
 
 use crate::lines::{end_line, lines_with, no_memory_line, run_line};
 use crate::saying::{say_all, say_no_memory};
@@ -161,8 +161,7 @@ pub(crate) fn report_ending<P: Search, O: Sink, S: Spawner>(
     board: &Board<P, S>,
     out: &mut O,
 ) -> Status
-    requires problem { board.now.problem ≡ task.now.problem }
-    requires procedure { IsProcedureOf task.now.approach P.plain }
+    requires board { IsBoardOf task.now P.plain board.now }
     requires over { IsTrue (is_over P.shown board.now) }
     ensures { (call : Call) → Runs call task.now S.truth → StartsOf call Status.Ok
         → Conducted call (O.told out.old) (O.told out.new) result }
@@ -189,12 +188,11 @@ pub(crate) fn report_fault<P: Search, O: Sink, S: Spawner>(
     ticket: &Ticket,
     out: &mut O,
 ) -> Status
-    requires problem { board.now.problem ≡ task.now.problem }
-    requires procedure { IsProcedureOf task.now.approach P.plain }
-    requires taken { Contains board.now.journal (take_event ticket.now) }
-    requires asked { IsAskedTicket task.now.problem ticket.now }
-    ensures { (call : Call) → Runs call task.now S.truth → KeepsFault call task.now seat ticket.now
+    requires board { IsBoardOf task.now P.plain board.now }
+    requires taken { IsTakenIn task.now.problem board.now.journal ticket.now }
+    ensures ending { (call : Call) → Runs call task.now S.truth → KeepsFault call task.now seat ticket.now
         → Conducted call (O.told out.old) (O.told out.new) result }
+    ensures answer { EndsAs (Status.ChildFault seat) result }
 {
     board.is_board();
     report_failure(
@@ -214,10 +212,10 @@ pub(crate) fn report_no_memory<P: Search, O: Sink, S: Spawner>(
     board: &Board<P, S>,
     out: &mut O,
 ) -> Status
-    requires problem { board.now.problem ≡ task.now.problem }
-    requires procedure { IsProcedureOf task.now.approach P.plain }
-    ensures { (call : Call) → Runs call task.now S.truth
+    requires board { IsBoardOf task.now P.plain board.now }
+    ensures ending { (call : Call) → Runs call task.now S.truth
         → Conducted call (O.told out.old) (O.told out.new) result }
+    ensures answer { IsTrue (is_unsaid result) }
 {
     board.is_board();
     report_short(alloc, &task.problem, board.search(), out)

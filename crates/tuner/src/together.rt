@@ -1,13 +1,14 @@
 //! The board of a task is worked on by several seats beside each other.
-ghost use Rattle.std.specs.Prelude.{◌≡◌, ◌<◌, ◌≤◌, ℕ, List, All, IsTrue, IfOk, IfSome, IsSomeAnd, length, slice_get, slice_index_or};
-ghost use Rattle.std.specs.List.{AllZip};
-ghost use Rattle.board_steps.specs.Ledgers.{take_event};
+ghost use Rattle.std.specs.Prelude.{◌≡◌, ◌<◌, ◌↔◌, ℕ, IsTrue, IfOk, IsSomeAnd, length, slice_get, slice_index_or};
+ghost use Rattle.std.specs.List.{list_any};
 ghost use Rattle.board_steps.specs.Numbering.{IsRunnableTake};
-ghost use Rattle.pool_run.specs.Drives.{IsAskedTicket};
-ghost use Rattle.pool_run.specs.Seats.{SeatState, fault_of};
+ghost use Rattle.pool_run.specs.Seats.{SeatState};
 ghost use Rattle.tuner.specs.Calls.{Call};
-ghost use Rattle.tuner.specs.Promises.{Conducted, Runs};
-ghost use Rattle.tuner.specs.SeatsTogether.{HasSeats, HasWorkedOn, IsTakenIn};
+ghost use Rattle.tuner.specs.Conducted.{Conducted};
+ghost use Rattle.tuner.specs.Promises.{EndsAs, is_unsaid};
+ghost use Rattle.tuner.specs.ReadyToDrive.{IsBoardOf};
+ghost use Rattle.tuner.specs.SeatsTogether.{AreIdle, AreSeatsOf, HasWorkedOn, RunsOn, RunsWorked};
+ghost use Rattle.tuner.specs.SeatsTogether.{IsFirst, IsTakeOf, IsTakenIn, KeepsTaken, ReportsFault};
 ghost use Rattle.tuner.specs.Tasks.{IsProcedureOf};
 
 use crate::driving::{drive_board, open_board, run_alone};
@@ -50,10 +51,11 @@ fn work_all<R: Threads + Wait + Sync, P: Search + Send, S: Spawner + Send>(
     program: &Program,
     seats: &mut [Seat<S>],
 ) -> Board<P, S>
-    requires idle { All (λ seat. IsTrue seat.told.idle) seats.old }
+    requires idle { AreIdle seats.old }
     requires some { 0 < length seats.old }
     ensures all { length seats.new ≡ length seats.old }
-    ensures worked { (i : ℕ) (d : _) → i < length seats.old → HasWorkedOn (slice_index_or seats.old i d) (slice_index_or seats.new i d) }
+    ensures worked { (i : ℕ) (d : SeatState) → i < length seats.old
+        → HasWorkedOn (slice_index_or seats.old i d) (slice_index_or seats.new i d) }
 {
     let board = Mutex::new(board);
     let bell = Condvar::new();
@@ -75,8 +77,7 @@ fn is_take_of(
     ticket: &Ticket,
 ) -> Result<bool, Memory>
     requires { IsRunnableTake problem.now.rules event.now }
-    ensures event { IfOk result (λ own. IsTrue own → event.now ≡ take_event ticket.now) }
-    ensures asked { IfOk result (λ own. IsTrue own → IsAskedTicket problem.now ticket.now) }
+    ensures { IfOk result (λ own. IsTrue own ↔ IsTakeOf problem.now ticket.now event.now) }
 {
     let Event::Take {
         number,
@@ -113,10 +114,11 @@ fn is_asked_on<P: Search, S: Spawner>(
     board: &Board<P, S>,
     ticket: &Ticket,
 ) -> Result<bool, Memory>
-    ensures { IfOk result (λ own. IsTrue own → IsTakenIn board.now.problem board.now.journal ticket.now) }
+    ensures { IfOk result (λ own. IsTrue own ↔ IsTakenIn board.now.problem board.now.journal ticket.now) }
 {
     board.is_board();
-    for event in board.journal() {
+    let journal = board.journal();
+    for event in journal {
         if is_take_of(alloc, board.problem(), event, ticket)? {
             return Ok(true);
         }
@@ -130,7 +132,7 @@ fn keeps_fault<P: Search, S: Spawner>(
     board: &Board<P, S>,
     seat: &Seat<S>,
 ) -> Result<bool, Memory>
-    ensures { IfOk result (λ keeps. IsTrue keeps → IsSomeAnd (fault_of seat.now) (IsTakenIn board.now.problem board.now.journal)) }
+    ensures { IfOk result (λ keeps. IsTrue keeps ↔ KeepsTaken board.now seat.now) }
 {
     match seat.fault() {
         Some(ticket) => is_asked_on(alloc, board, ticket),
@@ -144,7 +146,7 @@ fn first_fault<P: Search, S: Spawner>(
     board: &Board<P, S>,
     seats: &[Seat<S>],
 ) -> Result<Option<usize>, Memory>
-    ensures { IfOk result (λ o. IfSome o (λ k. IsSomeAnd (slice_get seats.now k) (λ seat. IsSomeAnd (fault_of seat) (IsTakenIn board.now.problem board.now.journal)))) }
+    ensures { IfOk result (IsFirst (KeepsTaken board.now) seats.now) }
 {
     for k in 0..seats.len() {
         if keeps_fault(alloc, board, &seats[k])? {
@@ -155,7 +157,9 @@ fn first_fault<P: Search, S: Spawner>(
 }
 
 /// Whether one of these seats had no memory.
-fn is_short<S: Spawner>(seats: &[Seat<S>]) -> bool {
+fn is_short<S: Spawner>(seats: &[Seat<S>]) -> bool
+    ensures { result ≡ list_any (λ seat. seat.short) seats.now }
+{
     seats.iter().any(|seat| seat.short())
 }
 
@@ -168,12 +172,12 @@ fn report_kept<P: Search, O: Sink, S: Spawner>(
     seats: &[Seat<S>],
     out: &mut O,
 ) -> Status
-    requires problem { board.now.problem ≡ task.now.problem }
-    requires procedure { IsProcedureOf task.now.approach P.plain }
-    requires all { length seats.now ≡ task.now.problem.rules.workers }
-    requires kept { IsSomeAnd (slice_get seats.now number) (λ seat. IsSomeAnd (fault_of seat) (IsTakenIn board.now.problem board.now.journal)) }
-    ensures { (call : Call) (before : List SeatState) → Runs call task.now S.truth → AllZip HasWorkedOn before seats.now
-        → HasSeats call before seats.now → Conducted call (O.told out.old) (O.told out.new) result }
+    requires board { IsBoardOf task.now P.plain board.now }
+    requires seats { AreSeatsOf task.now seats.now }
+    requires kept { IsSomeAnd (slice_get seats.now number) (KeepsTaken board.now) }
+    ensures ending { (call : Call) → RunsWorked call task.now S.truth seats.now seats.now
+        → Conducted call (O.told out.old) (O.told out.new) result }
+    ensures answer { EndsAs (Status.ChildFault number) result }
 {
     let _ = task.workers();
     match seats[number].fault() {
@@ -192,14 +196,12 @@ fn go_on<R: Wait, P: Search, O: Sink, S: Spawner>(
     out: &mut O,
     seats: &mut [Seat<S>],
 ) -> Status
-    requires idle { All (λ seat. IsTrue seat.told.idle) seats.old }
-    requires problem { board.old.problem ≡ task.now.problem }
-    requires procedure { IsProcedureOf task.now.approach P.plain }
-    requires several { 1 < task.now.problem.rules.workers }
-    requires all { length seats.old ≡ task.now.problem.rules.workers }
-    ensures idle { All (λ seat. IsTrue seat.told.idle) seats.new }
-    ensures ending { (call : Call) (before : List SeatState) → Runs call task.now S.truth → AllZip HasWorkedOn before seats.old
-        → HasSeats call before seats.new → Conducted call (O.told out.old) (O.told out.new) result }
+    requires board { IsBoardOf task.now P.plain board.old }
+    requires seats { AreSeatsOf task.now seats.old }
+    ensures idle { AreIdle seats.new }
+    ensures ending { (call : Call) → RunsWorked call task.now S.truth seats.old seats.new
+        → Conducted call (O.told out.old) (O.told out.new) result }
+    ensures short { IsTrue (list_any (λ seat. seat.short) seats.old) → IsTrue (is_unsaid result) }
 {
     if is_short(seats) {
         return report_no_memory(alloc, task, board, out);
@@ -212,7 +214,7 @@ fn go_on<R: Wait, P: Search, O: Sink, S: Spawner>(
 
 /// Whether both are the same problem.
 fn is_same(left: &Problem, right: &Problem) -> bool
-    ensures { IsTrue result → left.now ≡ right.now }
+    ensures { IsTrue result ↔ (left.now ≡ right.now) }
 {
     *left == *right
 }
@@ -227,13 +229,12 @@ fn conclude<R: Wait, P: Search, O: Sink, S: Spawner>(
     out: &mut O,
     seats: &mut [Seat<S>],
 ) -> Status
-    requires idle { All (λ seat. IsTrue seat.told.idle) seats.old }
     requires procedure { IsProcedureOf task.now.approach P.plain }
-    requires several { 1 < task.now.problem.rules.workers }
-    requires all { length seats.old ≡ task.now.problem.rules.workers }
-    ensures idle { All (λ seat. IsTrue seat.told.idle) seats.new }
-    ensures ending { (call : Call) (before : List SeatState) → Runs call task.now S.truth → AllZip HasWorkedOn before seats.old
-        → HasSeats call before seats.new → Conducted call (O.told out.old) (O.told out.new) result }
+    requires seats { AreSeatsOf task.now seats.old }
+    ensures idle { AreIdle seats.new }
+    ensures ending { (call : Call) → RunsWorked call task.now S.truth seats.old seats.new
+        → Conducted call (O.told out.old) (O.told out.new) result }
+    ensures fault { ReportsFault P.shown task.now board.old seats.old result }
 {
     if !is_same(board.problem(), &task.problem) {
         return run_alone::<R, P, O, S>(rt, alloc, task, out, &mut seats[0]);
@@ -256,12 +257,10 @@ pub(crate) fn run_together<R: Threads + Wait + Sync, P: Search + Send, O: Sink, 
     out: &mut O,
     seats: &mut [Seat<S>],
 ) -> Status
-    requires idle { All (λ seat. IsTrue seat.told.idle) seats.old }
     requires procedure { IsProcedureOf task.now.approach P.plain }
-    requires several { 1 < task.now.problem.rules.workers }
-    requires all { length seats.old ≡ task.now.problem.rules.workers }
-    ensures idle { All (λ seat. IsTrue seat.told.idle) seats.new }
-    ensures ending { (call : Call) → Runs call task.now S.truth → HasSeats call seats.old seats.new
+    requires seats { AreSeatsOf task.now seats.old }
+    ensures idle { AreIdle seats.new }
+    ensures ending { (call : Call) → RunsOn call task.now S.truth seats.old seats.new
         → Conducted call (O.told out.old) (O.told out.new) result }
 {
     match open_board::<P, S>(alloc, &task.problem) {

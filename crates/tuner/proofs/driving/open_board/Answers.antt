@@ -9,8 +9,5 @@ returns-clause-problem g c = IfOk-weaker c.open.result _ _ (λ b e. ap (λ p. p.
 
 pub returns-clause-free : goal.returns-clause-free
 unfolding plain
-returns-clause-free g c = IfOk-weaker c.open.result _ _ (λ b e. ap (λ p. p.live) e) c.open.ensures.board
-
-pub returns-clause-going : goal.returns-clause-going
-unfolding plain
-returns-clause-going g c = IfOk-weaker c.open.result _ _ (λ b e. ap (λ p. p.stopped) e) c.open.ensures.board
+returns-clause-free g c =
+    IfOk-weaker c.open.result _ _ (λ b e. record { free = ap (λ p. p.live) e; going = ap (λ p. p.stopped) e }) c.open.ensures.board

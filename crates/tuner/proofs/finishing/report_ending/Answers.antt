@@ -12,7 +12,7 @@ report_abort-requires-clause-sound g c =
     let shown = g.P.Search.shown in
     let A : Rules → List Reply → Type 0 = λ rules replies. IsAsk rules (shown rules replies).ask in
     let asked = by_board A _ _ _ _ c.search-search.ensures.rules c.search-search.ensures.replies c.keeps_laws.ensures.ask in
-    rw (← c.requires.problem, c.in-Ok.ensures)
+    rw (← c.requires.board.problem, c.in-Ok.ensures)
     (sound_abort g.S.Spawner.truth shown g.P.Search.plain c.args.board.now c.is_board.ensures c.in-Aborted.cell.now c.in-Aborted.ensures.ending asked).sound.belongs
 
 pub returns-in-Finished : goal.returns-in-Finished
@@ -21,20 +21,20 @@ returns-in-Finished g c = λ call runs starts.
     let E : Rules → List Reply → Type 0 = λ rules replies.
     (shown rules replies).ask ≡ End → IsSearched rules (shown rules replies).entries (shown rules replies).last in
     let searched = by_board E _ _ _ _ c.search-search.ensures.rules c.search-search.ensures.replies c.keeps_laws.ensures.end in
-    finished_call call c.args.task.now g.S.Spawner.truth shown g.P.Search.plain c.requires.procedure c.args.board.now c.requires.problem runs _ _ _ starts
+    finished_call call c.args.task.now g.S.Spawner.truth shown g.P.Search.plain c.args.board.now c.requires.board runs _ _ _ starts
     (searched c.in-Finished.ensures.ending.1) c.in-Finished.ensures.shows
-    (rw (← c.requires.problem, c.search-search.ensures.replies) at c.report_end.ensures)
+    (rw (← c.requires.board.problem, c.search-search.ensures.replies) at c.report_end.ensures)
 
 pub returns-in-Ok : goal.returns-in-Ok
 returns-in-Ok g c = λ call runs starts.
     let shown = g.P.Search.shown in
     let A : Rules → List Reply → Type 0 = λ rules replies. IsAsk rules (shown rules replies).ask in
     let asked = by_board A _ _ _ _ c.search-search.ensures.rules c.search-search.ensures.replies c.keeps_laws.ensures.ask in
-    aborted_call call c.args.task.now g.S.Spawner.truth shown g.P.Search.plain c.requires.procedure c.args.board.now c.requires.problem runs _ _ _
+    aborted_call call c.args.task.now g.S.Spawner.truth shown g.P.Search.plain c.args.board.now c.requires.board runs _ _ _
     c.is_board.ensures g.met.P.Search.follows c.in-Ok.cell (c.in-Aborted.ensures.ending ∙ ap Some (sym c.in-Ok.ensures)) asked c.in-Aborted.ensures.shows
-    (rw (← c.requires.problem, c.search-search.ensures.replies) at c.report_abort.ensures)
+    (rw (← c.requires.board.problem, c.search-search.ensures.replies) at c.report_abort.ensures)
 
 pub returns-in-Err : goal.returns-in-Err
 returns-in-Err g c = λ call runs starts.
-    short_call call c.args.task.now g.S.Spawner.truth g.P.Search.shown g.P.Search.plain c.requires.procedure c.args.board.now c.requires.problem runs _ _ _
-    c.is_board.ensures g.met.P.Search.follows g.met.P.Search.steady (rw (← c.requires.problem, c.search-search.ensures.replies) at c.report_short.ensures)
+    short_call call c.args.task.now g.S.Spawner.truth g.P.Search.shown g.P.Search.plain c.args.board.now c.requires.board runs _ _ _
+    c.is_board.ensures g.met.P.Search.follows g.met.P.Search.steady (rw (← c.requires.board.problem, c.search-search.ensures.replies) at c.report_short.ensures)

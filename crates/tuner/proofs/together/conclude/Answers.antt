@@ -1,26 +1,55 @@
-use Rattle.std.proofs.Common.{sym, ◌∙◌, arith}
-use Rattle.tuner.proofs.SeatsTogether.{first_seat, starts_together}
+use Rattle.std.proofs.Common.{ℕ, Option, sym, subst, ◌∙◌, inr}
+use Rattle.std.proofs.lemmas.Bool.{false≢true}
+use Rattle.tuner.specs.Promises.{EndsAs}
+use Rattle.tuner.specs.SeatsTogether.{IsFirst, KeepsTaken}
+use Rattle.tuner.specs.declared.status.Status.TheVariants as status
+use Rattle.tuner.proofs.SeatsTogether.{first_drives, first_none, first_once, starts_together}
 use Rattle.tuner.proofs.together.conclude.Goals as goal
 
-pub returns-then-not-is_same-clause-ending : goal.returns-then-not-is_same-clause-ending
-returns-then-not-is_same-clause-ending g c = λ call before runs all has.
-    let first = first_seat call c.args.task.now before c.args.seats.now c.index-seats-0.result c.run_alone.new.seat all
-    (omega (arith, c.requires.all, c.requires.several)) c.requires.several has in
-    c.run_alone.ensures.ending call first.before runs first.ready first.has
+pub report_ending-requires-clause-board : goal.report_ending-requires-clause-board
+report_ending-requires-clause-board g c =
+    record { problem = sym c.problem.ensures ∙ c.is_same.ensures.0 c.if-not-is_same.false; procedure = c.requires.procedure }
 
-pub report_ending-requires-clause-problem : goal.report_ending-requires-clause-problem
-report_ending-requires-clause-problem g c = sym c.problem.ensures ∙ c.is_same.ensures c.if-not-is_same.false
+pub report_kept-requires-clause-board : goal.report_kept-requires-clause-board
+report_kept-requires-clause-board g c =
+    record { problem = sym c.problem.ensures ∙ c.is_same.ensures.0 c.if-not-is_same.false; procedure = c.requires.procedure }
+
+pub go_on-requires-clause-board : goal.go_on-requires-clause-board
+go_on-requires-clause-board g c =
+    record { problem = sym c.problem.ensures ∙ c.is_same.ensures.0 c.if-not-is_same.false; procedure = c.requires.procedure }
+
+pub report_no_memory-requires : goal.report_no_memory-requires
+report_no_memory-requires g c =
+    record { board = record { problem = sym c.problem.ensures ∙ c.is_same.ensures.0 c.if-not-is_same.false; procedure = c.requires.procedure } }
+
+pub returns-then-not-is_same-clause-ending : goal.returns-then-not-is_same-clause-ending
+returns-then-not-is_same-clause-ending g c = λ call worked.
+    c.run_alone.ensures.ending call
+    (first_drives call c.args.task.now g.S.Spawner.truth c.args.seats.now c.index-seats-0.result c.run_alone.new.seat worked c.requires.seats)
+
+pub returns-then-not-is_same-clause-fault : goal.returns-then-not-is_same-clause-fault
+returns-then-not-is_same-clause-fault g c = λ same going k first.
+    absurd (false≢true (sym c.if-not-is_same.true ∙ c.is_same.ensures.1 (c.problem.ensures ∙ same)))
 
 pub returns-then-is_over-clause-ending : goal.returns-then-is_over-clause-ending
-returns-then-is_over-clause-ending g c = λ call before runs all has.
-    c.report_ending.ensures call runs
-    (starts_together call c.args.task.now g.S.Spawner.truth before c.args.seats.now runs all has c.requires.all c.requires.several)
+returns-then-is_over-clause-ending g c = λ call worked.
+    c.report_ending.ensures call worked.on.runs (starts_together call c.args.task.now g.S.Spawner.truth c.args.seats.now worked c.requires.seats)
 
-pub report_kept-requires-clause-problem : goal.report_kept-requires-clause-problem
-report_kept-requires-clause-problem g c = sym c.problem.ensures ∙ c.is_same.ensures c.if-not-is_same.false
+pub returns-then-is_over-clause-fault : goal.returns-then-is_over-clause-fault
+returns-then-is_over-clause-fault g c = λ same going k first.
+    absurd (false≢true (sym going ∙ sym c.is_over.ensures ∙ c.if-is_over.true))
 
-pub go_on-requires-clause-problem : goal.go_on-requires-clause-problem
-go_on-requires-clause-problem g c = sym c.problem.ensures ∙ c.is_same.ensures c.if-not-is_same.false
+pub returns-in-Ok-Some-clause-fault : goal.returns-in-Ok-Some-clause-fault
+returns-in-Ok-Some-clause-fault g c = λ same going k first.
+    let F : Option ℕ → Type 0 = λ o. IsFirst (KeepsTaken c.args.board.now) c.args.seats.now o in
+    let G : ℕ → Type 0 = λ n. EndsAs (status.ChildFault n) c.report_kept.result in
+    let found = subst F c.in-Ok-Some.field-0-is c.in-Ok-Some.ensures in
+    subst G (first_once (KeepsTaken c.args.board.now) c.args.seats.now c.in-Ok-Some.number k found first) c.report_kept.ensures.answer
 
-pub report_no_memory-requires-clause-problem : goal.report_no_memory-requires-clause-problem
-report_no_memory-requires-clause-problem g c = sym c.problem.ensures ∙ c.is_same.ensures c.if-not-is_same.false
+pub returns-in-Ok-None-clause-fault : goal.returns-in-Ok-None-clause-fault
+returns-in-Ok-None-clause-fault g c = λ same going k first.
+    let F : Option ℕ → Type 0 = λ o. IsFirst (KeepsTaken c.args.board.now) c.args.seats.now o in
+    absurd (first_none (KeepsTaken c.args.board.now) c.args.seats.now k (subst F c.in-Ok-None.field-0-is c.in-Ok-None.ensures) first)
+
+pub returns-in-Err-clause-fault : goal.returns-in-Err-clause-fault
+returns-in-Err-clause-fault g c = λ same going k first. inr c.report_no_memory.ensures.answer

@@ -1,5 +1,7 @@
+use Rattle.std.proofs.Common.{All, take}
+use Rattle.tuner.specs.SeatsTogether.{KeepsTaken}
 use Rattle.tuner.proofs.together.first_fault.Given as goal
 
--- the seats are gone over in order
+-- none of the seats so far keeps a fault of the board
 abbrev pub invariant-loop-k : goal.invariant-loop-k
-invariant-loop-k g l = Unit {0}
+invariant-loop-k g l = All (λ seat. ¬ KeepsTaken l.board seat) (take l.k l.seats)

@@ -1,13 +1,15 @@
 use Rattle.std.proofs.Common.{sym}
-use Rattle.std.specs.Prelude.{IsSomeAnd}
-use Rattle.pool_run.specs.Seats.{SeatState, fault_of}
-use Rattle.tuner.specs.SeatsTogether.{IsTakenIn}
-use Rattle.tuner.proofs.SeatsTogether.{keeps_at}
+use Rattle.tuner.specs.SeatsTogether.{KeepsTaken}
+use Rattle.tuner.proofs.SeatsTogether.{keeps_at, taken_at}
 use Rattle.tuner.proofs.together.report_kept.Goals as goal
 
-pub returns : goal.returns
-returns g c = λ call before runs all has.
-    let P : SeatState → Type 0 = λ seat. IsSomeAnd (fault_of seat) (IsTakenIn c.args.board.now.problem c.args.board.now.journal) in
-    c.report_fault.ensures call runs
-    (keeps_at call c.args.task.now before c.args.seats.now c.args.number c.index-seats-number.result c.in-Some.ticket.now P all has c.requires.all
-    c.requires.kept c.index-seats-number.is (sym c.in-Some.ensures))
+pub report_fault-requires-clause-taken : goal.report_fault-requires-clause-taken
+report_fault-requires-clause-taken g c =
+    taken_at c.args.board.now c.args.task.now.problem c.args.seats.now c.args.number c.index-seats-number.result c.in-Some.ticket.now
+    c.requires.board.problem c.requires.kept c.index-seats-number.is (sym c.in-Some.ensures)
+
+pub returns-clause-ending : goal.returns-clause-ending
+returns-clause-ending g c = λ call worked.
+    c.report_fault.ensures.ending call worked.on.runs
+    (keeps_at call c.args.task.now g.S.Spawner.truth c.args.seats.now c.args.number c.index-seats-number.result c.in-Some.ticket.now
+    (KeepsTaken c.args.board.now) worked c.requires.seats c.requires.kept c.index-seats-number.is (sym c.in-Some.ensures))
