@@ -25,8 +25,9 @@ The exit status, and the last line:
   4  readfault NAME            8  nomemory
   5  (it couldn't be written)  9  seats ASKED GIVEN
 
-The formats of the files, of a wrapper's result line and of the output are
-described in README.md and docs/FORMATS.md of the project.
+PLACE of usage is that of the first wrong word of the call, from 0. What WHAT
+may be, and the formats of the files, of a wrapper's result line and of the
+output are described in README.md and docs/FORMATS.md of the project.
 ";
 
 /// Which version the program is.
