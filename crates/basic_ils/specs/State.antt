@@ -9,7 +9,7 @@ use Rattle.ils_face.specs.Rules.{Rules}
 use Rattle.ils_face.specs.Trajectories.{newest, IsTrajectory}
 use Rattle.ils_face.specs.declared.asks.Reply.{Reply}
 use Rattle.ils_face.specs.declared.asks.Reply.TheVariants.{Exact, Exceeds}
-use Rattle.ils_frame.specs.Comparers.{Phase, Ready, Asking, Decided, Parts, AreCostsKnown}
+use Rattle.ils_frame.specs.Comparers.{AskedStage, Ready, Asking, Decided, Parts, AreCostsKnown}
 
 -- how far a comparison is
 pub data Place : Type 0 where
@@ -27,12 +27,12 @@ pub record State : Type 0 where
   pub entries : List Incumbent  -- oldest first
 
 -- the evaluation that is asked for
-abbrev pub phase_at : ℕ → Settings → Place → Phase
-phase_at n incumbent Opening = Asking (record { config = incumbent; places = n; bound = None })
-phase_at n incumbent Opened = Ready
-phase_at n incumbent (Second first second) = Asking (record { config = second; places = n; bound = None })
-phase_at n incumbent (First first bound) = Asking (record { config = first; places = n; bound = Some bound })
-phase_at n incumbent (Compared won) = Decided won
+abbrev pub stage_at : ℕ → Settings → Place → AskedStage
+stage_at n incumbent Opening = Asking (record { config = incumbent; places = n; bound = None })
+stage_at n incumbent Opened = Ready
+stage_at n incumbent (Second first second) = Asking (record { config = second; places = n; bound = None })
+stage_at n incumbent (First first bound) = Asking (record { config = first; places = n; bound = Some bound })
+stage_at n incumbent (Compared won) = Decided won
 
 -- a tie is won; nothing but a cost up to the bound is replied in full
 abbrev pub place_after : Place → Reply → Place
@@ -152,7 +152,7 @@ state_at_begin c θ φ m = record {
 -- how BasicILS goes on, and what it shows
 abbrev pub basic_parts : Parts State
 basic_parts = record {
-  phase = λ c. phase_at c.max_runs c.last.config c.place;
+  stage = λ c. stage_at c.max_runs c.last.config c.place;
   last = λ c. c.last;
   entries = λ c. c.entries;
   after = state_after;

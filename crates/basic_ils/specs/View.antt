@@ -7,7 +7,7 @@ use Rattle.ils_face.specs.declared.asks.Ask.TheVariants as ask
 use Rattle.ils_frame.specs.Comparers.{question_in}
 use Rattle.basic_ils.specs.declared.place.Place as place
 use Rattle.basic_ils.specs.declared.place.Place.TheVariants as held
-use Rattle.basic_ils.specs.State.{Place, Opening, Opened, Second, First, Compared, phase_at}
+use Rattle.basic_ils.specs.State.{Place, Opening, Opened, Second, First, Compared, stage_at}
 
 -- the configuration that is asked for
 abbrev pub config_in : Ask → Settings
@@ -31,4 +31,4 @@ place_seen asked (held.Compared won) = Compared won
 
 -- the open ask is the one that the place wants
 abbrev pub IsAskOf : ℕ → Settings → Ask → Place → Type 0
-IsAskOf n incumbent asked place = asked ≡ ask_for (question_in (phase_at n incumbent place))
+IsAskOf n incumbent asked place = asked ≡ ask_for (question_in (stage_at n incumbent place))

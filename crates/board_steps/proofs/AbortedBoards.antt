@@ -24,7 +24,7 @@ use Rattle.capping.specs.declared.verdicts.Verdict.TheVariants as verdict
 use Rattle.capping.specs.Decisions.{place_count, IsKnownAbort, IsFirstAbort}
 use Rattle.capping.proofs.AbortedAsks.{known-abort, first-abort}
 use Rattle.capping.proofs.OtherCells.{abort-stays}
-use Rattle.board_steps.specs.declared.answers.Phase.TheVariants as phase
+use Rattle.board_steps.specs.declared.answers.BoardVerdict.TheVariants as board_verdict
 use Rattle.board_steps.specs.declared.events.Event.{Event}
 use Rattle.board_steps.specs.declared.events.Event.TheVariants as event
 use Rattle.board_steps.specs.declared.events.Event.TheVariants.{Advance, Mark}
@@ -32,7 +32,7 @@ use Rattle.board_steps.specs.declared.tickets.LiveTicket.{LiveTicket}
 use Rattle.board_steps.specs.declared.tickets.Ticket.{Ticket}
 use Rattle.board_steps.specs.Boards.{PlainBoard, opening}
 use Rattle.board_steps.specs.Ledgers.{take_event}
-use Rattle.board_steps.specs.Phases.{config_of, ask_on, verdict_on, asked_cell, phase_by, phase_of, wishes_on}
+use Rattle.board_steps.specs.BoardVerdicts.{config_of, ask_on, verdict_on, asked_cell, board_verdict_by, board_verdict_of, wishes_on}
 use Rattle.board_steps.specs.Problem.{Problem}
 use Rattle.board_steps.specs.Replays.{replay}
 use Rattle.board_steps.specs.Steps.{same_wish, with_ticket, known_from, with_answer, with_loss, with_kill, with_reply, with_wishes, with_abort, marked_board, stopped_board, resumed_board}
@@ -77,11 +77,11 @@ alone e is = All-push IsNoAdvance [] e (All-nil IsNoAdvance) is
 
 module _ (shown : Rules → List Reply → View) where
   -- an open board has no cell that is set as aborted
-  pub unaborted : (b : PlainBoard) (v : Verdict) → phase_of shown b ≡ phase.Open v → b.aborted ≡ None
-  unfolding phase_of
+  pub unaborted : (b : PlainBoard) (v : Verdict) → board_verdict_of shown b ≡ board_verdict.Open v → b.aborted ≡ None
+  unfolding board_verdict_of
   unaborted b v stands = by b.stopped b.aborted stands
     where
-      by : (stopped : Bool) (aborted : Option Cell) → (if stopped then phase.Stopped else phase_by shown b aborted) ≡ phase.Open v → aborted ≡ None
+      by : (stopped : Bool) (aborted : Option Cell) → (if stopped then board_verdict.Stopped else board_verdict_by shown b aborted) ≡ board_verdict.Open v → aborted ≡ None
       by true aborted e = absurd (cc)
       by false (Some cell) e = absurd (cc)
       by false None e = refl
@@ -138,12 +138,12 @@ module _ (shown : Rules → List Reply → View) where
   aborting-opening problem = none-aborting (opening problem) refl
 
   -- the search is answered
-  pub aborting-reply : (b : PlainBoard) (r : Reply) → phase_of shown b ≡ phase.Open (verdict.Reply r) → IsAborting shown (with_reply shown b r)
+  pub aborting-reply : (b : PlainBoard) (r : Reply) → board_verdict_of shown b ≡ board_verdict.Open (verdict.Reply r) → IsAborting shown (with_reply shown b r)
   unfolding with_reply
   aborting-reply b r stands = none-aborting (with_reply shown b r) (unaborted b (verdict.Reply r) stands)
 
   -- there may be other wishes
-  pub aborting-wishes : (b : PlainBoard) (place : ℕ) (cutoff : Micros) → phase_of shown b ≡ phase.Open (verdict.Need place cutoff)
+  pub aborting-wishes : (b : PlainBoard) (place : ℕ) (cutoff : Micros) → board_verdict_of shown b ≡ board_verdict.Open (verdict.Need place cutoff)
       → IsAborting shown (with_wishes shown b)
   unfolding with_wishes
   aborting-wishes b place cutoff stands = none-aborting (with_wishes shown b) (by (pointwise same_wish b.wishes (wishes_on shown b)))
@@ -153,7 +153,7 @@ module _ (shown : Rules → List Reply → View) where
       by false = unaborted b (verdict.Need place cutoff) stands
 
   -- the walk of the present ask came to an abort
-  pub aborting-abort : (b : PlainBoard) (place : ℕ) → phase_of shown b ≡ phase.Open (verdict.Aborted place) → IsReplayed shown b
+  pub aborting-abort : (b : PlainBoard) (place : ℕ) → board_verdict_of shown b ≡ board_verdict.Open (verdict.Aborted place) → IsReplayed shown b
       → IsAborting shown (with_abort shown b place)
   unfolding with_abort asked_cell verdict_on
   aborting-abort b place stands replayed = record {

@@ -23,7 +23,7 @@ use Rattle.board_steps.specs.declared.tickets.Ticket.{Ticket}
 use Rattle.board_steps.specs.Boards.{PlainBoard, opening}
 use Rattle.board_steps.specs.Ledgers.{take_event}
 use Rattle.board_steps.specs.Numbering.{IsTicket, AreNumbered, tickets_of}
-use Rattle.board_steps.specs.Phases.{wishes_on}
+use Rattle.board_steps.specs.BoardVerdicts.{wishes_on}
 use Rattle.board_steps.specs.Problem.{Problem}
 use Rattle.board_steps.specs.ProblemRuns.{key_of, told_outcome, table_of}
 use Rattle.board_steps.specs.Steps.{with_ticket, known_from, is_conflict, with_answer, with_loss, with_kill, with_reply, with_wishes, with_abort, same_wish, marked_board, stopped_board, resumed_board}

@@ -16,7 +16,7 @@ use Rattle.run_cache.specs.Caches.{is_at}
 use Rattle.capping.specs.declared.verdicts.Verdict.{Verdict}
 use Rattle.capping.specs.declared.verdicts.Verdict.TheVariants as verdict
 use Rattle.capping.proofs.OtherCells.{need-stays, abort-stays}
-use Rattle.board_steps.specs.declared.answers.Phase.TheVariants as phase
+use Rattle.board_steps.specs.declared.answers.BoardVerdict.TheVariants as board_verdict
 use Rattle.board_steps.specs.declared.answers.Taken.TheVariants as taken
 use Rattle.board_steps.specs.declared.events.Event.TheVariants as event
 use Rattle.board_steps.specs.declared.tickets.Kind.{Kind}
@@ -25,7 +25,7 @@ use Rattle.board_steps.specs.declared.tickets.LiveTicket.{LiveTicket}
 use Rattle.board_steps.specs.declared.tickets.Ticket.{Ticket}
 use Rattle.board_steps.specs.Boards.{PlainBoard, opening}
 use Rattle.board_steps.specs.Numbering.{tickets_of}
-use Rattle.board_steps.specs.Phases.{config_of, ask_on, verdict_on, asked_cell, phase_of, wishes_on}
+use Rattle.board_steps.specs.BoardVerdicts.{config_of, ask_on, verdict_on, asked_cell, board_verdict_of, wishes_on}
 use Rattle.board_steps.specs.Problem.{Problem}
 use Rattle.board_steps.specs.Steps.{same_wish, ticket_for, taken_on, with_ticket, known_from, with_answer, with_loss, with_kill, with_reply, with_wishes, with_abort, marked_board, stopped_board, resumed_board}
 use Rattle.board_steps.specs.Tickets.{same_cell, live_at, without}
@@ -107,14 +107,14 @@ module _ (shown : Rules → List Reply → View) where
   -- ---- an answer to the search
 
   -- where the verdict is a reply, no live ticket was asked for
-  pub asked-none : (b : PlainBoard) (r : Reply) → phase_of shown b ≡ phase.Open (verdict.Reply r) → AreAsked shown b
+  pub asked-none : (b : PlainBoard) (r : Reply) → board_verdict_of shown b ≡ board_verdict.Open (verdict.Reply r) → AreAsked shown b
       → All (λ t. t.kind ≡ Asked → ⊥) (tickets_of b.live)
   asked-none b r stands asked = All-weaker (IfAsked shown b) (λ t. t.kind ≡ Asked → ⊥)
       (λ t has kind. subst (λ v. IsWanted v (config_of (ask_on shown b)) t) (verdict-open shown b (verdict.Reply r) stands) (has kind).wanted)
       (tickets_of b.live) asked.each
 
   -- the search is answered
-  pub asked-reply : (b : PlainBoard) (r : Reply) → phase_of shown b ≡ phase.Open (verdict.Reply r) → AreAsked shown b
+  pub asked-reply : (b : PlainBoard) (r : Reply) → board_verdict_of shown b ≡ board_verdict.Open (verdict.Reply r) → AreAsked shown b
       → AreAsked shown (with_reply shown b r)
   unfolding with_reply
   asked-reply b r stands asked = record {

@@ -36,7 +36,7 @@ use Rattle.board_steps.specs.declared.tickets.LiveTicket.{LiveTicket}
 use Rattle.board_steps.specs.declared.tickets.Ticket.{Ticket}
 use Rattle.board_steps.specs.Boards.{PlainBoard, opening}
 use Rattle.board_steps.specs.Ledgers.{take_event}
-use Rattle.board_steps.specs.Phases.{config_of, ask_on, verdict_on, asked_cell, wishes_on}
+use Rattle.board_steps.specs.BoardVerdicts.{config_of, ask_on, verdict_on, asked_cell, wishes_on}
 use Rattle.board_steps.specs.Problem.{Problem}
 use Rattle.board_steps.specs.ProblemRuns.{table_of}
 use Rattle.board_steps.specs.Steps.{ticket_for, taken_on, with_ticket, with_answer, with_loss, with_kill, with_reply, with_wishes, with_abort, same_wish, marked_board, stopped_board, resumed_board}
@@ -101,10 +101,10 @@ module _ (limits : Bounds) (known : Knowledge) (T : Table) (agrees : (config : L
       needed-due θ n (Some bound.0) place cutoff answer (ended-walk limits known θ (Some bound.0) n (verdict.Need place cutoff) is)
   due-ask End place cutoff answer is = absurd (cc)
 
-module _ (plain : Rules → Table → Run) (truth : Option (Key → Outcome)) where
+module _ (procedure : Rules → Table → Run) (truth : Option (Key → Outcome)) where
   -- the event took no asked ticket, or one whose run is due
   abbrev IsDueOf : Problem → Event → Type 0
-  IsDueOf problem e = IsDueTake problem.rules.limits (table_of truth problem) (quiet_by plain truth problem).asks e
+  IsDueOf problem e = IsDueTake problem.rules.limits (table_of truth problem) (quiet_by procedure truth problem).asks e
 
   -- one more event that takes no ticket, after as many replies or more
   due-other : (problem : Problem) (journal : List Event) (e : Event) → IsDueOf problem e → All (IsDueOf problem) journal → All (IsDueOf problem) (journal ++ e ∷ [])
@@ -112,22 +112,22 @@ module _ (plain : Rules → Table → Run) (truth : Option (Key → Outcome)) wh
 
   -- ---- each step
 
-  pub due-opening : (problem : Problem) → AreDueTickets plain truth (opening problem)
+  pub due-opening : (problem : Problem) → AreDueTickets procedure truth (opening problem)
   due-opening problem = record { due = All-nil (IsDueOf problem); order = order-opening 0 }
 
-  pub due-answer : (b : PlainBoard) (answer : Answer) (l : LiveTicket) → AreDueTickets plain truth b → AreDueTickets plain truth (with_answer b answer l)
+  pub due-answer : (b : PlainBoard) (answer : Answer) (l : LiveTicket) → AreDueTickets procedure truth b → AreDueTickets procedure truth (with_answer b answer l)
   unfolding with_answer
   due-answer b answer l d =
       let e = Record l.ticket.number answer in
       record { due = due-other b.problem b.journal e tt d.due; order = order-other (length b.replies) b.journal e refl d.order }
 
-  pub due-loss : (b : PlainBoard) (l : LiveTicket) → AreDueTickets plain truth b → AreDueTickets plain truth (with_loss b l)
+  pub due-loss : (b : PlainBoard) (l : LiveTicket) → AreDueTickets procedure truth b → AreDueTickets procedure truth (with_loss b l)
   unfolding with_loss
   due-loss b l d =
       let e = Lost l.ticket.number in
       record { due = due-other b.problem b.journal e tt d.due; order = order-other (length b.replies) b.journal e refl d.order }
 
-  pub due-kill : (b : PlainBoard) (l : LiveTicket) → AreDueTickets plain truth b → AreDueTickets plain truth (with_kill b l)
+  pub due-kill : (b : PlainBoard) (l : LiveTicket) → AreDueTickets procedure truth b → AreDueTickets procedure truth (with_kill b l)
   unfolding with_kill
   due-kill b l d =
       let e = Killed l.ticket.number in
@@ -148,19 +148,19 @@ module _ (plain : Rules → Table → Run) (truth : Option (Key → Outcome)) wh
       let same = append_assoc journal (mark_event p l) (mark_events p live) in
       (subst (λ es. All (IsDueOf problem) es) same rest.0, subst (λ es. AreInOrder replies es) same rest.1)
 
-  pub due-marks : (b : PlainBoard) (p : LiveTicket → Bool) → AreDueTickets plain truth b → AreDueTickets plain truth (marked_board b p)
+  pub due-marks : (b : PlainBoard) (p : LiveTicket → Bool) → AreDueTickets procedure truth b → AreDueTickets procedure truth (marked_board b p)
   due-marks b p d =
       let both = due-events b.problem (length b.replies) b.journal p b.live d.due d.order in
       record { due = both.0; order = both.1 }
 
-  pub due-stop : (b : PlainBoard) → AreDueTickets plain truth b → AreDueTickets plain truth (stopped_board b)
+  pub due-stop : (b : PlainBoard) → AreDueTickets procedure truth b → AreDueTickets procedure truth (stopped_board b)
   due-stop b d = record { due = due-other b.problem b.journal Stop tt d.due; order = order-other (length b.replies) b.journal Stop refl d.order }
 
-  pub due-resume : (b : PlainBoard) → AreDueTickets plain truth b → AreDueTickets plain truth (resumed_board b)
+  pub due-resume : (b : PlainBoard) → AreDueTickets procedure truth b → AreDueTickets procedure truth (resumed_board b)
   due-resume b d = record { due = due-other b.problem b.journal Resume tt d.due; order = order-other (length b.replies) b.journal Resume refl d.order }
 
   module _ (shown : Rules → List Reply → View) where
-    pub due-reply : (b : PlainBoard) (r : Reply) → AreDueTickets plain truth b → AreDueTickets plain truth (with_reply shown b r)
+    pub due-reply : (b : PlainBoard) (r : Reply) → AreDueTickets procedure truth b → AreDueTickets procedure truth (with_reply shown b r)
     unfolding with_reply
     due-reply b r d =
         let more = length-append b.replies (r ∷ []) in
@@ -170,23 +170,23 @@ module _ (plain : Rules → Table → Run) (truth : Option (Key → Outcome)) wh
           order = order-other (length (b.replies ++ r ∷ [])) b.journal Advance refl later;
         }
 
-    pub due-abort : (b : PlainBoard) (place : ℕ) → AreDueTickets plain truth b → AreDueTickets plain truth (with_abort shown b place)
+    pub due-abort : (b : PlainBoard) (place : ℕ) → AreDueTickets procedure truth b → AreDueTickets procedure truth (with_abort shown b place)
     unfolding with_abort
     due-abort b place d =
         record { due = due-other b.problem b.journal Advance tt d.due; order = order-other (length b.replies) b.journal Advance refl d.order }
 
-    pub due-wishes : (b : PlainBoard) → AreDueTickets plain truth b → AreDueTickets plain truth (with_wishes shown b)
+    pub due-wishes : (b : PlainBoard) → AreDueTickets procedure truth b → AreDueTickets procedure truth (with_wishes shown b)
     unfolding with_wishes
     due-wishes b d = at (pointwise same_wish b.wishes (wishes_on shown b))
       where
-        at : (same : Bool) → AreDueTickets plain truth (if same then b else record b { wishes = wishes_on shown b; journal = b.journal ++ Advance ∷ [] })
+        at : (same : Bool) → AreDueTickets procedure truth (if same then b else record b { wishes = wishes_on shown b; journal = b.journal ++ Advance ∷ [] })
         at true = d
         at false =
             record { due = due-other b.problem b.journal Advance tt d.due; order = order-other (length b.replies) b.journal Advance refl d.order }
 
-    module _ (follows : (rules : Rules) (T : Table) → AreRules rules → Follows (shown rules) (sums_under rules T) (plain rules T)) where
+    module _ (follows : (rules : Rules) (T : Table) → AreRules rules → Follows (shown rules) (sums_under rules T) (procedure rules T)) where
       -- the run of the needed cell is due at the present ask
-      needed-take : (b : PlainBoard) (t : Ticket) → IsNeededTicket shown b t → AreRules b.problem.rules → IsAgreeing truth b → AreReplied plain truth b
+      needed-take : (b : PlainBoard) (t : Ticket) → IsNeededTicket shown b t → AreRules b.problem.rules → IsAgreeing truth b → AreReplied procedure truth b
           → IsDueOf b.problem (take_event t)
       unfolding ticket_for asked_cell verdict_on
       needed-take b t needed ruled agreeing a = rw needed.ticket at_ask
@@ -197,7 +197,7 @@ module _ (plain : Rules → Table → Run) (truth : Option (Key → Outcome)) wh
           at_ask : IsDueOf b.problem (take_event (ticket_for b Asked (asked_cell shown b needed.place) needed.cutoff.0))
           at_ask answer =
               let run = run_of (ticket_for b Asked (asked_cell shown b needed.place) needed.cutoff.0) answer in
-              subst (λ o. IsSomeAnd o (IsDueFor b.problem.rules.limits (table_of truth b.problem) run)) (present-ask plain truth shown follows b ruled a)
+              subst (λ o. IsSomeAnd o (IsDueFor b.problem.rules.limits (table_of truth b.problem) run)) (present-ask procedure truth shown follows b ruled a)
               (due-ask b.problem.rules.limits b.known (table_of truth b.problem) agreeing.known (ask_on shown b) needed.place needed.cutoff answer is)
 
       -- a run ahead needn't be due
@@ -210,14 +210,14 @@ module _ (plain : Rules → Table → Run) (truth : Option (Key → Outcome)) wh
       place-now b t (inl needed) = ap (λ u. u.place) needed.ticket
       place-now b t (inr ahead) = ap (λ u. u.place) ahead.ticket
 
-      is-due : (b : PlainBoard) (t : Ticket) → IsNeededTicket shown b t ⊎ IsAheadTicket shown b t → AreRules b.problem.rules → IsAgreeing truth b → AreReplied plain truth b
+      is-due : (b : PlainBoard) (t : Ticket) → IsNeededTicket shown b t ⊎ IsAheadTicket shown b t → AreRules b.problem.rules → IsAgreeing truth b → AreReplied procedure truth b
           → IsDueOf b.problem (take_event t)
       is-due b t (inl needed) ruled agreeing a = needed-take b t needed ruled agreeing a
       is-due b t (inr ahead) ruled agreeing a = ahead-take b t ahead
 
       -- a ticket is taken
-      pub due-ticket : (b : PlainBoard) (t : Ticket) → taken_on shown b ≡ taken.Ticket t → AreRules b.problem.rules → IsAgreeing truth b → AreReplied plain truth b
-          → AreDueTickets plain truth b → AreDueTickets plain truth (with_ticket b t)
+      pub due-ticket : (b : PlainBoard) (t : Ticket) → taken_on shown b ≡ taken.Ticket t → AreRules b.problem.rules → IsAgreeing truth b → AreReplied procedure truth b
+          → AreDueTickets procedure truth b → AreDueTickets procedure truth (with_ticket b t)
       due-ticket b t offered ruled agreeing a d =
           let why = given shown b t offered in
           record {
@@ -238,21 +238,21 @@ each-event P (e ∷ journal) all =
     (λ place among. All-contains P whole place all (Contains-append_right (place_taken e) (places_taken journal) place among)) (places_taken journal) (All-contains_itself (places_taken journal)) in
     All-cons (λ e. All P (place_taken e)) e journal here (each-event P journal rest)
 
-module _ (plain : Rules → Table → Run) (truth : Option (Key → Outcome)) where
+module _ (procedure : Rules → Table → Run) (truth : Option (Key → Outcome)) where
   -- the ask of an asked ticket that was taken: its run is due there, whatever it answers
-  pub due-taken : (b : PlainBoard) (t : Ticket) (answer : Answer) → Contains b.journal (take_event t) → t.kind ≡ Asked → AreDueTickets plain truth b
-      → IsDue b.problem.rules.limits (table_of truth b.problem) (quiet_by plain truth b.problem).asks t.place (run_of t answer)
+  pub due-taken : (b : PlainBoard) (t : Ticket) (answer : Answer) → Contains b.journal (take_event t) → t.kind ≡ Asked → AreDueTickets procedure truth b
+      → IsDue b.problem.rules.limits (table_of truth b.problem) (quiet_by procedure truth b.problem).asks t.place (run_of t answer)
   due-taken b t answer among asked d =
       let limits = b.problem.rules.limits in
       let T = table_of truth b.problem in
-      let asks = (quiet_by plain truth b.problem).asks in
+      let asks = (quiet_by procedure truth b.problem).asks in
       let taken : IsDueTake limits T asks (take_event t) = All-contains (IsDueTake limits T asks) b.journal (take_event t) d.due among in
       let is : IsDueTake limits T asks (Take t.number Asked t.cell t.run.cutoff t.place) =
       subst (λ kind. IsDueTake limits T asks (Take t.number kind t.cell t.run.cutoff t.place)) asked taken in
       is answer
 
   -- the place of a ticket that was taken isn't above the number of replies
-  pub place-taken : (b : PlainBoard) (t : Ticket) → Contains b.journal (take_event t) → AreDueTickets plain truth b → t.place ≤ length b.replies
+  pub place-taken : (b : PlainBoard) (t : Ticket) → Contains b.journal (take_event t) → AreDueTickets procedure truth b → t.place ≤ length b.replies
   place-taken b t among d =
       let P : ℕ → Type 0 = λ place. place ≤ length b.replies in
       let each : All P (t.place ∷ []) = All-contains (λ e. All P (place_taken e)) b.journal (take_event t) (each-event P b.journal d.order.within) among in

@@ -9,22 +9,22 @@ use Rattle.run_cache.specs.declared.cell.Cell.{Cell}
 use Rattle.capping.specs.declared.verdicts.Verdict.{Verdict}
 use Rattle.capping.specs.declared.verdicts.Verdict.TheVariants as verdict
 use Rattle.predictor.specs.declared.wish.Wish.{Wish}
-use Rattle.board_steps.specs.declared.answers.Phase.{Phase}
-use Rattle.board_steps.specs.declared.answers.Phase.TheVariants as phase
+use Rattle.board_steps.specs.declared.answers.BoardVerdict.{BoardVerdict}
+use Rattle.board_steps.specs.declared.answers.BoardVerdict.TheVariants as board_verdict
 use Rattle.board_steps.specs.declared.answers.Taken.{Taken}
 use Rattle.board_steps.specs.declared.answers.Taken.TheVariants as taken
 use Rattle.board_steps.specs.declared.tickets.Kind.TheVariants.{Asked, Ahead}
 use Rattle.board_steps.specs.declared.tickets.Ticket.{Ticket}
 use Rattle.board_steps.specs.Boards.{PlainBoard}
-use Rattle.board_steps.specs.Phases.{verdict_on, asked_cell, phase_by, phase_of}
+use Rattle.board_steps.specs.BoardVerdicts.{verdict_on, asked_cell, board_verdict_by, board_verdict_of}
 use Rattle.board_steps.specs.Steps.{ticket_for, is_free, taken_ahead, taken_by, taken_on}
 use Rattle.board_steps.specs.Tickets.{has_ticket}
 
--- the verdict of an open phase
-abbrev verdict_in : Phase → Verdict → Verdict
-verdict_in phase.Stopped other = other
-verdict_in phase.Aborted other = other
-verdict_in (phase.Open v) other = v
+-- the verdict of an open board_verdict
+abbrev verdict_in : BoardVerdict → Verdict → Verdict
+verdict_in board_verdict.Stopped other = other
+verdict_in board_verdict.Aborted other = other
+verdict_in (board_verdict.Open v) other = v
 
 -- the ticket of a take
 abbrev ticket_in : Taken → Ticket → Ticket
@@ -36,11 +36,11 @@ ticket_in taken.Stopped other = other
 
 module _ (shown : Rules → List Reply → View) where
   -- an open board goes by its verdict
-  pub verdict-open : (b : PlainBoard) (v : Verdict) → phase_of shown b ≡ phase.Open v → verdict_on shown b ≡ v
-  unfolding phase_of
+  pub verdict-open : (b : PlainBoard) (v : Verdict) → board_verdict_of shown b ≡ board_verdict.Open v → verdict_on shown b ≡ v
+  unfolding board_verdict_of
   verdict-open b v stands = by b.stopped b.aborted stands
     where
-      by : (stopped : Bool) (aborted : Option Cell) → (if stopped then phase.Stopped else phase_by shown b aborted) ≡ phase.Open v → verdict_on shown b ≡ v
+      by : (stopped : Bool) (aborted : Option Cell) → (if stopped then board_verdict.Stopped else board_verdict_by shown b aborted) ≡ board_verdict.Open v → verdict_on shown b ≡ v
       by true aborted e = absurd (cc)
       by false (Some cell) e = absurd (cc)
       by false None e = ap (λ p. verdict_in p v) e
@@ -49,7 +49,7 @@ module _ (shown : Rules → List Reply → View) where
   pub record IsNeededTicket (b : PlainBoard) (t : Ticket) : Type 0 where
     pub place : ℕ
     pub cutoff : Micros
-    pub stands : phase_of shown b ≡ phase.Open (verdict.Need place cutoff)
+    pub stands : board_verdict_of shown b ≡ board_verdict.Open (verdict.Need place cutoff)
     pub alone : has_ticket b.live (asked_cell shown b place) ≡ false
     pub ticket : t ≡ ticket_for b Asked (asked_cell shown b place) cutoff.0
 
@@ -57,13 +57,13 @@ module _ (shown : Rules → List Reply → View) where
   pub record IsAheadTicket (b : PlainBoard) (t : Ticket) : Type 0 where
     pub place : ℕ
     pub cutoff : Micros
-    pub stands : phase_of shown b ≡ phase.Open (verdict.Need place cutoff)
+    pub stands : board_verdict_of shown b ≡ board_verdict.Open (verdict.Need place cutoff)
     pub running : has_ticket b.live (asked_cell shown b place) ≡ true
     pub wish : Wish
     pub free : find (is_free b (asked_cell shown b place)) b.wishes ≡ Some wish
     pub ticket : t ≡ ticket_for b Ahead wish.cell wish.cutoff.0
 
-  given_ahead : (b : PlainBoard) (t : Ticket) (place : ℕ) (cutoff : Micros) → phase_of shown b ≡ phase.Open (verdict.Need place cutoff)
+  given_ahead : (b : PlainBoard) (t : Ticket) (place : ℕ) (cutoff : Micros) → board_verdict_of shown b ≡ board_verdict.Open (verdict.Need place cutoff)
       → has_ticket b.live (asked_cell shown b place) ≡ true → (o : Option Wish) → find (is_free b (asked_cell shown b place)) b.wishes ≡ o
       → taken_ahead b o ≡ taken.Ticket t → IsAheadTicket b t
   given_ahead b t place cutoff stands running None free given = absurd (cc)
@@ -77,7 +77,7 @@ module _ (shown : Rules → List Reply → View) where
     ticket = sym (ap (λ x. ticket_in x t) given);
   }
 
-  given_beside : (b : PlainBoard) (t : Ticket) (place : ℕ) (cutoff : Micros) → phase_of shown b ≡ phase.Open (verdict.Need place cutoff)
+  given_beside : (b : PlainBoard) (t : Ticket) (place : ℕ) (cutoff : Micros) → board_verdict_of shown b ≡ board_verdict.Open (verdict.Need place cutoff)
       → (running : Bool) → has_ticket b.live (asked_cell shown b place) ≡ running
       → (if running then taken_ahead b (find (is_free b (asked_cell shown b place)) b.wishes) else taken.Ticket (ticket_for b Asked (asked_cell shown b place) cutoff.0)) ≡ taken.Ticket t
       → IsNeededTicket b t ⊎ IsAheadTicket b t
@@ -90,15 +90,15 @@ module _ (shown : Rules → List Reply → View) where
     ticket = sym (ap (λ x. ticket_in x t) given);
   })
 
-  given_by : (b : PlainBoard) (t : Ticket) (p : Phase) → phase_of shown b ≡ p → taken_by shown b p ≡ taken.Ticket t → IsNeededTicket b t ⊎ IsAheadTicket b t
-  given_by b t phase.Stopped stands given = absurd (cc)
-  given_by b t phase.Aborted stands given = absurd (cc)
-  given_by b t (phase.Open (verdict.Reply r)) stands given = absurd (cc)
-  given_by b t (phase.Open (verdict.Need place cutoff)) stands given = given_beside b t place cutoff stands (has_ticket b.live (asked_cell shown b place)) refl given
-  given_by b t (phase.Open (verdict.Aborted place)) stands given = absurd (cc)
-  given_by b t (phase.Open verdict.Ended) stands given = absurd (cc)
+  given_by : (b : PlainBoard) (t : Ticket) (p : BoardVerdict) → board_verdict_of shown b ≡ p → taken_by shown b p ≡ taken.Ticket t → IsNeededTicket b t ⊎ IsAheadTicket b t
+  given_by b t board_verdict.Stopped stands given = absurd (cc)
+  given_by b t board_verdict.Aborted stands given = absurd (cc)
+  given_by b t (board_verdict.Open (verdict.Reply r)) stands given = absurd (cc)
+  given_by b t (board_verdict.Open (verdict.Need place cutoff)) stands given = given_beside b t place cutoff stands (has_ticket b.live (asked_cell shown b place)) refl given
+  given_by b t (board_verdict.Open (verdict.Aborted place)) stands given = absurd (cc)
+  given_by b t (board_verdict.Open verdict.Ended) stands given = absurd (cc)
 
   -- what a ticket is given for
   pub given : (b : PlainBoard) (t : Ticket) → taken_on shown b ≡ taken.Ticket t → IsNeededTicket b t ⊎ IsAheadTicket b t
   unfolding taken_on
-  given b t offered = given_by b t (phase_of shown b) refl offered
+  given b t offered = given_by b t (board_verdict_of shown b) refl offered

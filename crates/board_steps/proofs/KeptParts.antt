@@ -11,7 +11,7 @@ use Rattle.ils_face.specs.Follows.{Follows, sums_under}
 use Rattle.ils_face.specs.Rules.{Rules, AreRules}
 use Rattle.ils_face.specs.Views.{View}
 use Rattle.capping.specs.declared.verdicts.Verdict.TheVariants as verdict
-use Rattle.board_steps.specs.declared.answers.Phase.TheVariants as phase
+use Rattle.board_steps.specs.declared.answers.BoardVerdict.TheVariants as board_verdict
 use Rattle.board_steps.specs.declared.answers.Taken.TheVariants as taken
 use Rattle.board_steps.specs.declared.tickets.LiveTicket.{LiveTicket}
 use Rattle.board_steps.specs.declared.tickets.Ticket.{Ticket}
@@ -20,7 +20,7 @@ use Rattle.board_steps.specs.AskedTickets.{AreAsked}
 use Rattle.board_steps.specs.Boards.{PlainBoard, opening}
 use Rattle.board_steps.specs.JournalRuns.{AreTaken}
 use Rattle.board_steps.specs.Numbering.{AreNumbered, tickets_of}
-use Rattle.board_steps.specs.Phases.{phase_of}
+use Rattle.board_steps.specs.BoardVerdicts.{board_verdict_of}
 use Rattle.board_steps.specs.Problem.{Problem}
 use Rattle.board_steps.specs.RangedBoards.{IsRanged}
 use Rattle.board_steps.specs.RecordedRuns.{AreRising}
@@ -66,7 +66,7 @@ module _ (shown : Rules → List Reply → View) (procedure : Rules → Table �
 
   -- the search is answered
   pub parts-reply : ((rules : Rules) (T : Table) → AreRules rules → Follows (shown rules) (sums_under rules T) (procedure rules T))
-      → (b : PlainBoard) (r : Reply) → phase_of shown b ≡ phase.Open (verdict.Reply r) → AreRules b.problem.rules
+      → (b : PlainBoard) (r : Reply) → board_verdict_of shown b ≡ board_verdict.Open (verdict.Reply r) → AreRules b.problem.rules
       → HasParts b → HasParts (with_reply shown b r)
   parts-reply follows b r stands ruled has = record {
     ranged = ranged-reply shown b r has.ranged;
@@ -79,7 +79,7 @@ module _ (shown : Rules → List Reply → View) (procedure : Rules → Table �
   }
 
   -- there may be other wishes
-  pub parts-wishes : (b : PlainBoard) (place : ℕ) (cutoff : Micros) → phase_of shown b ≡ phase.Open (verdict.Need place cutoff)
+  pub parts-wishes : (b : PlainBoard) (place : ℕ) (cutoff : Micros) → board_verdict_of shown b ≡ board_verdict.Open (verdict.Need place cutoff)
       → HasParts b → HasParts (with_wishes shown b)
   parts-wishes b place cutoff stands has = record {
     ranged = ranged-wishes shown b has.ranged;
@@ -92,7 +92,7 @@ module _ (shown : Rules → List Reply → View) (procedure : Rules → Table �
   }
 
   -- the walk of the present ask came to an abort
-  pub parts-abort : (b : PlainBoard) (place : ℕ) → phase_of shown b ≡ phase.Open (verdict.Aborted place) → IsReplayed shown b
+  pub parts-abort : (b : PlainBoard) (place : ℕ) → board_verdict_of shown b ≡ board_verdict.Open (verdict.Aborted place) → IsReplayed shown b
       → HasParts b → HasParts (with_abort shown b place)
   parts-abort b place stands replayed has = record {
     ranged = ranged-abort shown b place has.ranged;

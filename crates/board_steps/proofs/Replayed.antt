@@ -7,7 +7,7 @@ use Rattle.ils_face.specs.Rules.{Rules}
 use Rattle.ils_face.specs.Views.{View}
 use Rattle.objective.specs.declared.Micros.{Micros}
 use Rattle.capping.specs.declared.verdicts.Verdict.TheVariants as verdict
-use Rattle.board_steps.specs.declared.answers.Phase.TheVariants as phase
+use Rattle.board_steps.specs.declared.answers.BoardVerdict.TheVariants as board_verdict
 use Rattle.board_steps.specs.declared.answers.Taken.TheVariants as taken
 use Rattle.board_steps.specs.declared.events.Event.{Event}
 use Rattle.board_steps.specs.declared.events.Event.TheVariants as event
@@ -15,7 +15,7 @@ use Rattle.board_steps.specs.declared.tickets.LiveTicket.{LiveTicket}
 use Rattle.board_steps.specs.declared.tickets.Ticket.{Ticket}
 use Rattle.board_steps.specs.Boards.{PlainBoard, opening}
 use Rattle.board_steps.specs.Ledgers.{take_event}
-use Rattle.board_steps.specs.Phases.{phase_of}
+use Rattle.board_steps.specs.BoardVerdicts.{board_verdict_of}
 use Rattle.board_steps.specs.Problem.{Problem}
 use Rattle.board_steps.specs.Replays.{after_event, replay}
 use Rattle.board_steps.specs.Steps.{with_ticket, with_answer, with_loss, with_kill, with_reply, with_wishes, with_abort, after_advance, advanced_by, taken_on, after_take, stopped_board, after_stop, resumed_board, after_resume}
@@ -40,12 +40,12 @@ module _ (shown : Rules → List Reply → View) where
       sym (ap (λ p. replay shown p after.journal) problem ∙ ap (λ j. replay shown b.problem j) journal ∙ made)
 
   -- the search was answered
-  pub replayed-reply : (b : PlainBoard) (r : Reply) → phase_of shown b ≡ phase.Open (verdict.Reply r) → IsReplayed b → IsReplayed (with_reply shown b r)
+  pub replayed-reply : (b : PlainBoard) (r : Reply) → board_verdict_of shown b ≡ board_verdict.Open (verdict.Reply r) → IsReplayed b → IsReplayed (with_reply shown b r)
   unfolding with_reply after_advance after_event
   replayed-reply b r stands before = replayed-next b (with_reply shown b r) event.Advance before (rw stands refl) refl refl
 
   -- the walk of the present ask came to an abort
-  pub replayed-abort : (b : PlainBoard) (place : ℕ) → phase_of shown b ≡ phase.Open (verdict.Aborted place) → IsReplayed b → IsReplayed (with_abort shown b place)
+  pub replayed-abort : (b : PlainBoard) (place : ℕ) → board_verdict_of shown b ≡ board_verdict.Open (verdict.Aborted place) → IsReplayed b → IsReplayed (with_abort shown b place)
   unfolding with_abort after_advance after_event
   replayed-abort b place stands before = replayed-next b (with_abort shown b place) event.Advance before (rw stands refl) refl refl
 
@@ -70,7 +70,7 @@ module _ (shown : Rules → List Reply → View) where
   replayed-kill b l live before = replayed-next b (with_kill b l) (event.Killed l.ticket.number) before (rw live refl) refl refl
 
   -- there are other wishes
-  pub replayed-wishes : (b after : PlainBoard) (place : ℕ) (cutoff : Micros) → phase_of shown b ≡ phase.Open (verdict.Need place cutoff)
+  pub replayed-wishes : (b after : PlainBoard) (place : ℕ) (cutoff : Micros) → board_verdict_of shown b ≡ board_verdict.Open (verdict.Need place cutoff)
       → with_wishes shown b ≡ after → after.problem ≡ b.problem → after.journal ≡ b.journal ++ event.Advance ∷ [] → IsReplayed b → IsReplayed after
   unfolding after_advance after_event
   replayed-wishes b after place cutoff stands other problem journal before =

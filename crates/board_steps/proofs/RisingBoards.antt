@@ -25,7 +25,7 @@ use Rattle.run_cache.specs.Caches.{Knowledge}
 use Rattle.run_cache.proofs.FirstKnowledge.{rising_first}
 use Rattle.capping.specs.declared.verdicts.Verdict.TheVariants as verdict
 use Rattle.capping.specs.Verdicts.{verdict_of}
-use Rattle.capping.specs.Decisions.{IsNeeded, IfNeed, AreRanged}
+use Rattle.capping.specs.Decisions.{IsNeeded, IfNeedOf, AreRanged}
 use Rattle.capping.proofs.Promises.{needs}
 use Rattle.predictor.specs.declared.wish.Wish.{Wish}
 use Rattle.predictor.proofs.PresentWishes.{with_no_room}
@@ -36,7 +36,7 @@ use Rattle.board_steps.specs.declared.tickets.LiveTicket.{LiveTicket}
 use Rattle.board_steps.specs.declared.tickets.Ticket.{Ticket}
 use Rattle.board_steps.specs.Boards.{PlainBoard, opening}
 use Rattle.board_steps.specs.Numbering.{AreNumbered, tickets_of}
-use Rattle.board_steps.specs.Phases.{config_of, ask_on, verdict_on, asked_cell, wishes_on}
+use Rattle.board_steps.specs.BoardVerdicts.{config_of, ask_on, verdict_on, asked_cell, wishes_on}
 use Rattle.board_steps.specs.Problem.{Problem}
 use Rattle.board_steps.specs.Steps.{same_wish, ticket_for, is_free, known_from, with_ticket, with_answer, with_loss, with_kill, marked_board, with_reply, with_wishes, with_abort, taken_on, stopped_board, resumed_board}
 use Rattle.board_steps.specs.Tickets.{same_cell, has_ticket, has_cell, live_at, without}
@@ -74,14 +74,14 @@ ranged-asked limits known End ranged = tt
 pub verdict-unsettled : (limits : Bounds) (known : Knowledge) (ask : Ask) (place : ℕ) (cutoff : Micros) → ((q : Question) → AreRanged limits known q)
     → verdict_of limits known ask ≡ verdict.Need place cutoff → is_settled (known (config_of ask) place) cutoff.0 ≡ false
 verdict-unsettled limits known ask place cutoff ranged needs_it =
-    needed-unsettled limits known ask place cutoff.0 (subst (λ v. IfNeed v ask (IsNeeded limits known)) needs_it (needs limits known ask (ranged-asked limits known ask ranged)))
+    needed-unsettled limits known ask place cutoff.0 (subst (λ v. IfNeedOf v ask (IsNeeded limits known)) needs_it (needs limits known ask (ranged-asked limits known ask ranged)))
 
 -- a wish that is free isn't settled
 free-unsettled : (b : PlainBoard) (needed : Cell) (w : Wish) → is_free b needed w ≡ true → is_settled (b.known w.cell.config w.cell.place) w.cutoff.0 ≡ false
 unfolding is_free
 free-unsettled b needed w free =
     not-true (is_settled (b.known w.cell.config w.cell.place) w.cutoff.0)
-    (and-right (not (has_ticket b.live w.cell) && not (has_cell b.shunned w.cell) && not (same_cell needed w.cell)) (not (is_settled (b.known w.cell.config w.cell.place) w.cutoff.0)) free)
+    (and-right (not (has_ticket b.live w.cell) && not (has_cell b.lost_ahead w.cell) && not (same_cell needed w.cell)) (not (is_settled (b.known w.cell.config w.cell.place) w.cutoff.0)) free)
 
 module _ (shown : Rules → List Reply → View) where
   -- a needed ticket's run tells more

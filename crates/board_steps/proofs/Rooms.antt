@@ -60,11 +60,11 @@ marks_places ys i x new now after all within is step room =
     omega (arith, change, same, step, room)
 
 -- the room of a ledger that is stopped
-pub room_stopped : (journal_room shunned_room : ℕ) (live : List LiveTicket) (shunned : List Cell) (next : ℕ) (journal : List Event)
-    → HasRoom journal_room shunned_room live shunned next false journal
-    → HasRoom journal_room shunned_room (map marked live) shunned next true (journal ++ Stop ∷ [])
+pub room_stopped : (journal_room lost_ahead_room : ℕ) (live : List LiveTicket) (lost_ahead : List Cell) (next : ℕ) (journal : List Event)
+    → HasRoom journal_room lost_ahead_room live lost_ahead next false journal
+    → HasRoom journal_room lost_ahead_room (map marked live) lost_ahead next true (journal ++ Stop ∷ [])
 unfolding places_kept
-room_stopped journal_room shunned_room live shunned next journal room =
+room_stopped journal_room lost_ahead_room live lost_ahead next journal room =
     let one_more = length-append journal (Stop ∷ []) in
     let as_many = length-map live marked in
     record {

@@ -33,7 +33,7 @@ use Rattle.run_cache.specs.Knowledge.{Agrees}
 use Rattle.capping.specs.Decisions.{place_count}
 use Rattle.capping.proofs.AbortedPlaces.{total_cost-none}
 use Rattle.board_steps.specs.Boards.{PlainBoard}
-use Rattle.board_steps.specs.Phases.{config_of, ask_on}
+use Rattle.board_steps.specs.BoardVerdicts.{config_of, ask_on}
 use Rattle.board_steps.specs.Problem.{Problem}
 use Rattle.board_steps.specs.ProblemRuns.{table_of}
 use Rattle.board_steps.specs.AgreeingBoards.{IsAgreeing}
@@ -98,32 +98,32 @@ unknown-ask rules T cell End same first within none = absurd (omega (arith, firs
 
 -- ---- what a board shows
 
-module _ (plain : Rules → Table → Run) (truth : Option (Key → Outcome)) (shown : Rules → List Reply → View)
-    (follows : (rules : Rules) (T : Table) → AreRules rules → Follows (shown rules) (sums_under rules T) (plain rules T)) where
+module _ (procedure : Rules → Table → Run) (truth : Option (Key → Outcome)) (shown : Rules → List Reply → View)
+    (follows : (rules : Rules) (T : Table) → AreRules rules → Follows (shown rules) (sums_under rules T) (procedure rules T)) where
   -- after the first replies the ask is the procedure's next one
-  pub ask-after : (b : PlainBoard) (place : ℕ) → place ≤ length b.replies → AreRules b.problem.rules → AreReplied plain truth b
-      → question_of (shown b.problem.rules (take place b.replies)).ask ≡ slice_get (quiet_by plain truth b.problem).asks place
+  pub ask-after : (b : PlainBoard) (place : ℕ) → place ≤ length b.replies → AreRules b.problem.rules → AreReplied procedure truth b
+      → question_of (shown b.problem.rules (take place b.replies)).ask ≡ slice_get (quiet_by procedure truth b.problem).asks place
   ask-after b place low ruled a =
       let sums = quiet_sums truth b.problem in
-      let whole : Run = quiet_by plain truth b.problem in
+      let whole : Run = quiet_by procedure truth b.problem in
       let t = a.traced in
       let within : place ≤ answer_count whole = omega (arith, low, t.within) in
       let first : take place b.replies ≡ replies_to sums whole place =
       ap (take place) t.same ∙ take-map (reply_to sums) place (take (length b.replies) whole.asks)
       ∙ ap (map (reply_to sums)) (take-take place (length b.replies) whole.asks low) in
-      let asked = asked_next (shown b.problem.rules) sums whole (replies_to sums whole place) (quiet-follows plain truth shown follows b.problem ruled) (replies-traced sums whole place within) in
+      let asked = asked_next (shown b.problem.rules) sums whole (replies_to sums whole place) (quiet-follows procedure truth shown follows b.problem ruled) (replies-traced sums whole place within) in
       ap (λ rs. question_of (shown b.problem.rules rs).ask) first ∙ asked ∙ ap (slice_get whole.asks) (ap length (sym first) ∙ length-take-le place b.replies low)
 
-  answered-at : (problem : Problem) (replies : List Reply) (place : ℕ) → IsTraced (quiet_sums truth problem) (quiet_by plain truth problem) replies
-      → place < length replies → (o : Option Question) → slice_get (quiet_by plain truth problem).asks place ≡ o → IsSomeAnd o (IsAnsweredAt (quiet_sums truth problem) replies place)
+  answered-at : (problem : Problem) (replies : List Reply) (place : ℕ) → IsTraced (quiet_sums truth problem) (quiet_by procedure truth problem) replies
+      → place < length replies → (o : Option Question) → slice_get (quiet_by procedure truth problem).asks place ≡ o → IsSomeAnd o (IsAnsweredAt (quiet_sums truth problem) replies place)
   answered-at problem replies place t inside None e =
-      let whole : Run = quiet_by plain truth problem in
+      let whole : Run = quiet_by procedure truth problem in
       let past = past_last whole.asks place e in
       let counted = answers_within whole.end (length whole.asks) in
       absurd (omega (arith, inside, past, counted, t.within))
   answered-at problem replies place t inside (Some q) e =
       let sums = quiet_sums truth problem in
-      let whole : Run = quiet_by plain truth problem in
+      let whole : Run = quiet_by procedure truth problem in
       let k = length replies in
       let counted = answers_within whole.end (length whole.asks) in
       let taken = length-take-le k whole.asks (omega (arith, counted, t.within)) in
@@ -132,34 +132,34 @@ module _ (plain : Rules → Table → Run) (truth : Option (Key → Outcome)) (s
       record { reply = ap (λ rs. slice_get rs place) t.same ∙ slice_get-map (reply_to sums) (take k whole.asks) place ∙ ap (option_map (reply_to sums)) at }
 
   -- each reply is that of the ask that is shown after the replies before it
-  pub reply-at : (b : PlainBoard) (place : ℕ) → place < length b.replies → AreRules b.problem.rules → AreReplied plain truth b
+  pub reply-at : (b : PlainBoard) (place : ℕ) → place < length b.replies → AreRules b.problem.rules → AreReplied procedure truth b
       → IsSomeAnd (question_of (shown b.problem.rules (take place b.replies)).ask) (IsAnsweredAt (quiet_sums truth b.problem) b.replies place)
   reply-at b place inside ruled a =
       subst (λ o. IsSomeAnd o (IsAnsweredAt (quiet_sums truth b.problem) b.replies place)) (sym (ask-after b place (omega (arith, inside)) ruled a))
-      (answered-at b.problem b.replies place a.traced inside (slice_get (quiet_by plain truth b.problem).asks place) refl)
+      (answered-at b.problem b.replies place a.traced inside (slice_get (quiet_by procedure truth b.problem).asks place) refl)
 
   module _ (steady : (rules : Rules) → AreRules rules → IsSteady rules (shown rules)) where
     -- the entries that are shown are the first ones of the procedure, where each abort counts as unsolved
-    pub first-entries-shown : (b : PlainBoard) → AreRules b.problem.rules → AreReplied plain truth b
-        → Grows (shown b.problem.rules b.replies).entries (entries_of (quiet_by plain truth b.problem))
+    pub first-entries-shown : (b : PlainBoard) → AreRules b.problem.rules → AreReplied procedure truth b
+        → Grows (shown b.problem.rules b.replies).entries (entries_of (quiet_by procedure truth b.problem))
     first-entries-shown b ruled a =
-        first-shown b.problem.rules (shown b.problem.rules) (quiet_sums truth b.problem) (quiet_by plain truth b.problem)
-        (quiet-follows plain truth shown follows b.problem ruled) (steady b.problem.rules ruled) b.replies a.traced
+        first-shown b.problem.rules (shown b.problem.rules) (quiet_sums truth b.problem) (quiet_by procedure truth b.problem)
+        (quiet-follows procedure truth shown follows b.problem ruled) (steady b.problem.rules ruled) b.replies a.traced
 
     -- all that are shown are those before the present ask
-    entries-now : (b : PlainBoard) → AreRules b.problem.rules → AreReplied plain truth b
-        → (shown b.problem.rules b.replies).entries ≡ entries_before (quiet_by plain truth b.problem) (length b.replies)
+    entries-now : (b : PlainBoard) → AreRules b.problem.rules → AreReplied procedure truth b
+        → (shown b.problem.rules b.replies).entries ≡ entries_before (quiet_by procedure truth b.problem) (length b.replies)
     entries-now b ruled a =
         ap (λ rs. (shown b.problem.rules rs).entries) a.traced.same
-        ∙ (quiet-follows plain truth shown follows b.problem ruled).entries (length b.replies) a.traced.within
+        ∙ (quiet-follows procedure truth shown follows b.problem ruled).entries (length b.replies) a.traced.within
 
     -- the entries that the procedure adds before an ask that was met are the first ones that are shown
-    pub earlier-entries-shown : (b : PlainBoard) (place : ℕ) → place ≤ length b.replies → AreRules b.problem.rules → AreReplied plain truth b
-        → Grows (entries_before (quiet_by plain truth b.problem) place) (shown b.problem.rules b.replies).entries
+    pub earlier-entries-shown : (b : PlainBoard) (place : ℕ) → place ≤ length b.replies → AreRules b.problem.rules → AreReplied procedure truth b
+        → Grows (entries_before (quiet_by procedure truth b.problem) place) (shown b.problem.rules b.replies).entries
     earlier-entries-shown b place low ruled a =
         let sums = quiet_sums truth b.problem in
-        let whole : Run = quiet_by plain truth b.problem in
-        let h = quiet-follows plain truth shown follows b.problem ruled in
+        let whole : Run = quiet_by procedure truth b.problem in
+        let h = quiet-follows procedure truth shown follows b.problem ruled in
         let t = a.traced in
         let within : place ≤ answer_count whole = omega (arith, low, t.within) in
         let on_the_way = first-shown b.problem.rules (shown b.problem.rules) sums whole h (steady b.problem.rules ruled) (replies_to sums whole place) (replies-traced sums whole place within) in
@@ -170,21 +170,21 @@ module _ (plain : Rules → Table → Run) (truth : Option (Key → Outcome)) (s
         (omega (arith, fewer, ap length (entries-now b ruled a)))
 
     -- the entries of the procedure are the first ones of it where each abort counts as unsolved
-    true-first : (problem : Problem) → AreRules problem.rules → Grows (entries_of (true_by plain truth problem)) (entries_of (quiet_by plain truth problem))
+    true-first : (problem : Problem) → AreRules problem.rules → Grows (entries_of (true_by procedure truth problem)) (entries_of (quiet_by procedure truth problem))
     true-first problem ruled =
-        first-entries problem.rules (shown problem.rules) (table_of truth problem) (true_by plain truth problem) (quiet_by plain truth problem)
-        (steady problem.rules ruled) (follows problem.rules (table_of truth problem) ruled) (quiet-follows plain truth shown follows problem ruled)
+        first-entries problem.rules (shown problem.rules) (table_of truth problem) (true_by procedure truth problem) (quiet_by procedure truth problem)
+        (steady problem.rules ruled) (follows problem.rules (table_of truth problem) ruled) (quiet-follows procedure truth shown follows problem ruled)
 
-    module _ (aborts : (rules : Rules) (T : Table) → AreRules rules → MeetsAborts (sums_under rules T) (plain rules T) (plain rules (quiet T))) where
+    module _ (aborts : (rules : Rules) (T : Table) → AreRules rules → MeetsAborts (sums_under rules T) (procedure rules T) (procedure rules (quiet T))) where
       -- at the end of the search all entries are shown, and the last line
-      pub all-entries-shown : (b : PlainBoard) → ask_on shown b ≡ End → AreRules b.problem.rules → AreReplied plain truth b
-          → ShowsAll (shown b.problem.rules b.replies) (true_by plain truth b.problem) (quiet_by plain truth b.problem)
+      pub all-entries-shown : (b : PlainBoard) → ask_on shown b ≡ End → AreRules b.problem.rules → AreReplied procedure truth b
+          → ShowsAll (shown b.problem.rules b.replies) (true_by procedure truth b.problem) (quiet_by procedure truth b.problem)
       all-entries-shown b ended ruled a =
           let view = shown b.problem.rules b.replies in
-          let run : Run = true_by plain truth b.problem in
-          let whole : Run = quiet_by plain truth b.problem in
+          let run : Run = true_by procedure truth b.problem in
+          let whole : Run = quiet_by procedure truth b.problem in
           let final : IsFinal view whole =
-          traced_final (shown b.problem.rules) (quiet_sums truth b.problem) whole b.replies (quiet-follows plain truth shown follows b.problem ruled) a.traced ended in
+          traced_final (shown b.problem.rules) (quiet_sums truth b.problem) whole b.replies (quiet-follows procedure truth shown follows b.problem ruled) a.traced ended in
           record {
             final = final;
             first = subst (Grows (entries_of run)) (sym final.shows.entries) (true-first b.problem ruled);
@@ -193,24 +193,24 @@ module _ (plain : Rules → Table → Run) (truth : Option (Key → Outcome)) (s
 
       -- the cost of the present ask isn't known: the procedure is cut at it or before
       cut-here : (b : PlainBoard) → IsSomeAnd (question_of (ask_on shown b)) (IsUnknown (sums_under b.problem.rules (table_of truth b.problem)))
-          → AreRules b.problem.rules → AreReplied plain truth b → IsCutBy (true_by plain truth b.problem) (quiet_by plain truth b.problem) (length b.replies)
+          → AreRules b.problem.rules → AreReplied procedure truth b → IsCutBy (true_by procedure truth b.problem) (quiet_by procedure truth b.problem) (length b.replies)
       cut-here b unknown ruled a =
           let sums = sums_under b.problem.rules (table_of truth b.problem) in
-          let whole : Run = quiet_by plain truth b.problem in
+          let whole : Run = quiet_by procedure truth b.problem in
           let there : IsSomeAnd (slice_get whole.asks (length b.replies)) (IsUnknown sums) =
-          subst (λ o. IsSomeAnd o (IsUnknown sums)) (present-ask plain truth shown follows b ruled a) unknown in
-          cut_by sums (true_by plain truth b.problem) whole (length b.replies) (aborts b.problem.rules (table_of truth b.problem) ruled)
+          subst (λ o. IsSomeAnd o (IsUnknown sums)) (present-ask procedure truth shown follows b ruled a) unknown in
+          cut_by sums (true_by procedure truth b.problem) whole (length b.replies) (aborts b.problem.rules (table_of truth b.problem) ruled)
           (inside_list (IsUnknown sums) whole.asks (length b.replies) (slice_get whole.asks (length b.replies)) refl there) there
 
       -- where a run of the present ask is known to abort, so is the procedure, and its entries are the first ones that are shown
       pub aborted-entries-shown : (b : PlainBoard) (cell : Cell) → b.known cell.config cell.place ≡ Abort → cell.config ≡ config_of (ask_on shown b)
-          → 1 ≤ cell.place → cell.place ≤ place_count (ask_on shown b) → AreRules b.problem.rules → IsAgreeing truth b → AreReplied plain truth b
-          → ShowsAborted (shown b.problem.rules b.replies) (true_by plain truth b.problem) (quiet_by plain truth b.problem)
+          → 1 ≤ cell.place → cell.place ≤ place_count (ask_on shown b) → AreRules b.problem.rules → IsAgreeing truth b → AreReplied procedure truth b
+          → ShowsAborted (shown b.problem.rules b.replies) (true_by procedure truth b.problem) (quiet_by procedure truth b.problem)
       aborted-entries-shown b cell known same first within ruled agreeing a =
           let T = table_of truth b.problem in
           let view = shown b.problem.rules b.replies in
-          let run : Run = true_by plain truth b.problem in
-          let whole : Run = quiet_by plain truth b.problem in
+          let run : Run = true_by procedure truth b.problem in
+          let whole : Run = quiet_by procedure truth b.problem in
           let none : Agrees b.problem.rules.limits Abort (T cell.config cell.place) =
           subst (λ k. Agrees b.problem.rules.limits k (T cell.config cell.place)) known (agreeing.known cell.config cell.place) in
           let cut = cut-here b (unknown-ask b.problem.rules T cell (ask_on shown b) same first within none) ruled a in

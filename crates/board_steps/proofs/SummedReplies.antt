@@ -24,12 +24,12 @@ use Rattle.capping.specs.ExactSums.{exact_cost, exact_sum}
 use Rattle.capping.proofs.ExactSums.{exact_sum-same, exact_below}
 use Rattle.capping.proofs.WalkEnds.{IsEnd, walk_end}
 use Rattle.capping.proofs.OtherCells.{IsKept, run-kept}
-use Rattle.board_steps.specs.declared.answers.Phase.TheVariants as phase
+use Rattle.board_steps.specs.declared.answers.BoardVerdict.TheVariants as board_verdict
 use Rattle.board_steps.specs.declared.events.Event.TheVariants.{Advance}
 use Rattle.board_steps.specs.declared.tickets.LiveTicket.{LiveTicket}
 use Rattle.board_steps.specs.declared.tickets.Ticket.{Ticket}
 use Rattle.board_steps.specs.Boards.{PlainBoard, opening}
-use Rattle.board_steps.specs.Phases.{ask_on, verdict_on, phase_of, wishes_on}
+use Rattle.board_steps.specs.BoardVerdicts.{ask_on, verdict_on, board_verdict_of, wishes_on}
 use Rattle.board_steps.specs.Problem.{Problem}
 use Rattle.board_steps.specs.Steps.{same_wish, with_ticket, known_from, with_answer, with_loss, with_kill, marked_board, with_reply, with_wishes, with_abort, stopped_board, resumed_board}
 use Rattle.board_steps.specs.SummedReplies.{IsSummed, ask_after, AreSummedReplies, AreSummed}
@@ -116,7 +116,7 @@ module _ (shown : Rules → List Reply → View) where
   sums-opening problem = record { replies = record { each = λ i r at. absurd (none-some r at) } }
 
   -- the search is answered
-  pub sums-reply : (b : PlainBoard) (r : Reply) → phase_of shown b ≡ phase.Open (verdict.Reply r) → AreSummed shown b → AreSummed shown (with_reply shown b r)
+  pub sums-reply : (b : PlainBoard) (r : Reply) → board_verdict_of shown b ≡ board_verdict.Open (verdict.Reply r) → AreSummed shown b → AreSummed shown (with_reply shown b r)
   unfolding with_reply verdict_on
   sums-reply b r stands s =
       let replied = verdict-open shown b (verdict.Reply r) stands in

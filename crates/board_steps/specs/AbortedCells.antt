@@ -13,7 +13,7 @@ use Rattle.capping.specs.Decisions.{place_count, IsFirstAbort}
 use Rattle.board_steps.specs.declared.events.Event.{Event}
 use Rattle.board_steps.specs.declared.events.Event.TheVariants.{Advance, Take, Record, Lost, Mark, Killed, Stop, Resume}
 use Rattle.board_steps.specs.Boards.{PlainBoard}
-use Rattle.board_steps.specs.Phases.{config_of, ask_on, verdict_on, asked_cell}
+use Rattle.board_steps.specs.BoardVerdicts.{config_of, ask_on, verdict_on, asked_cell}
 use Rattle.board_steps.specs.Replays.{replay}
 
 -- the event isn't an advance

@@ -9,7 +9,7 @@ use Rattle.board_steps.specs.declared.tickets.Kind.TheVariants.{Asked}
 use Rattle.board_steps.specs.declared.tickets.Ticket.{Ticket}
 use Rattle.board_steps.specs.Boards.{PlainBoard}
 use Rattle.board_steps.specs.Numbering.{tickets_of}
-use Rattle.board_steps.specs.Phases.{config_of, ask_on, verdict_on}
+use Rattle.board_steps.specs.BoardVerdicts.{config_of, ask_on, verdict_on}
 
 -- the run is of a configuration at this place, under this cutoff
 pub record IsRunAt (θ : List ℕ) (place cutoff : ℕ) (t : Ticket) : Type 0 where

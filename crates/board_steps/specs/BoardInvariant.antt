@@ -10,7 +10,7 @@ use Rattle.ils_face.specs.Views.{View}
 use Rattle.board_steps.specs.AbortedCells.{IsAborting}
 use Rattle.board_steps.specs.AgreeingBoards.{IsAgreeing}
 use Rattle.board_steps.specs.AskedTickets.{AreAsked}
-use Rattle.board_steps.specs.Boards.{BoardState, plain}
+use Rattle.board_steps.specs.Boards.{BoardState, plain_board}
 use Rattle.board_steps.specs.DueTickets.{AreDueTickets}
 use Rattle.board_steps.specs.JournalRuns.{AreTaken}
 use Rattle.board_steps.specs.Numbering.{IsNumbered}
@@ -28,15 +28,15 @@ pub record IsStopped (b : BoardState) : Type 0 where
 pub record BoardInvariant (shown : Rules → List Reply → View) (procedure : Rules → Table → Run) (truth : Option (Key → Outcome)) (b : BoardState) : Type 0 where
   pub ruled : AreRules b.problem.rules
   pub limits : b.cache.limits ≡ b.problem.rules.limits
-  pub replays : plain b ≡ replay shown b.problem b.journal
+  pub replays : plain_board b ≡ replay shown b.problem b.journal
   pub numbering : IsNumbered b
   pub stopped : IsStopped b
-  pub ranged : IsRanged (plain b)
-  pub taken : AreTaken (plain b)
-  pub asked : AreAsked shown (plain b)
-  pub aborting : IsAborting shown (plain b)
-  pub rising : AreRising (plain b)
-  pub sums : AreSummed shown (plain b)
-  pub agrees : IsSome truth → IsAgreeing truth (plain b)
-  pub replies : IsSome truth → AreReplied procedure truth (plain b)
-  pub due : IsSome truth → AreDueTickets procedure truth (plain b)
+  pub ranged : IsRanged (plain_board b)
+  pub taken : AreTaken (plain_board b)
+  pub asked : AreAsked shown (plain_board b)
+  pub aborting : IsAborting shown (plain_board b)
+  pub rising : AreRising (plain_board b)
+  pub sums : AreSummed shown (plain_board b)
+  pub agrees : IsSome truth → IsAgreeing truth (plain_board b)
+  pub replies : IsSome truth → AreReplied procedure truth (plain_board b)
+  pub due : IsSome truth → AreDueTickets procedure truth (plain_board b)

@@ -18,7 +18,7 @@ pub record PlainBoard : Type 0 where
   pub conflicts : ℕ  -- the runs that contradicted what was known
   pub wishes : List Wish  -- runs that may be made ahead
   pub live : List LiveTicket
-  pub shunned : List Cell  -- cells whose run ahead was lost
+  pub lost_ahead : List Cell  -- cells whose run ahead was lost
   pub next : ℕ  -- the number of the next ticket
   pub stopped : Bool
   pub aborted : Option Cell  -- the cell that the walk of an ask came to and that aborts
@@ -31,7 +31,7 @@ pub record BoardState : Type 0 where
   pub cache : Cached
   pub wishes : List Wish
   pub live : List LiveTicket
-  pub shunned : List Cell
+  pub lost_ahead : List Cell
   pub next : ℕ
   pub stopped : Bool
   pub aborted : Option Cell
@@ -45,7 +45,7 @@ state_of problem replies cache wishes aborted ledger = record {
   cache = cache;
   wishes = wishes;
   live = ledger.live;
-  shunned = ledger.shunned;
+  lost_ahead = ledger.lost_ahead;
   next = ledger.next;
   stopped = ledger.stopped;
   aborted = aborted;
@@ -53,15 +53,15 @@ state_of problem replies cache wishes aborted ledger = record {
 }
 
 -- a board without the places of its cache
-unfoldable pub plain : BoardState → PlainBoard
-plain b = record {
+unfoldable pub plain_board : BoardState → PlainBoard
+plain_board b = record {
   problem = b.problem;
   replies = b.replies;
   known = known_in b.cache;
   conflicts = b.cache.conflicts;
   wishes = b.wishes;
   live = b.live;
-  shunned = b.shunned;
+  lost_ahead = b.lost_ahead;
   next = b.next;
   stopped = b.stopped;
   aborted = b.aborted;
@@ -77,7 +77,7 @@ opening problem = record {
   conflicts = 0;
   wishes = [];
   live = [];
-  shunned = [];
+  lost_ahead = [];
   next = 1;
   stopped = false;
   aborted = None;

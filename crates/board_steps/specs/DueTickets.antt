@@ -52,6 +52,6 @@ pub record AreInOrder (replies : ℕ) (journal : List Event) : Type 0 where
   pub within : All (λ place. place ≤ replies) (places_taken journal)
 
 -- each run that was asked for is due, and the places at which tickets were taken are in order
-pub record AreDueTickets (plain : Rules → Table → Run) (truth : Option (Key → Outcome)) (b : PlainBoard) : Type 0 where
-  pub due : All (IsDueTake b.problem.rules.limits (table_of truth b.problem) (quiet_by plain truth b.problem).asks) b.journal
+pub record AreDueTickets (procedure : Rules → Table → Run) (truth : Option (Key → Outcome)) (b : PlainBoard) : Type 0 where
+  pub due : All (IsDueTake b.problem.rules.limits (table_of truth b.problem) (quiet_by procedure truth b.problem).asks) b.journal
   pub order : AreInOrder (length b.replies) b.journal

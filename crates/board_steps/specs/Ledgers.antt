@@ -11,7 +11,7 @@ use Rattle.board_steps.specs.Tickets.{is_ahead}
 -- what a ledger holds
 pub record LedgerState : Type 0 where
   pub live : List LiveTicket
-  pub shunned : List Cell
+  pub lost_ahead : List Cell
   pub next : ℕ
   pub stopped : Bool
   pub journal : List Event
@@ -31,9 +31,9 @@ unfoldable pub places_kept : List LiveTicket → Bool → ℕ
 places_kept live stopped = sum_by places_of live + places_to_stop stopped
 
 -- the lists have the room that is kept
-pub record HasRoom (journal_room shunned_room : ℕ) (live : List LiveTicket) (shunned : List Cell) (next : ℕ) (stopped : Bool) (journal : List Event) : Type 0 where
+pub record HasRoom (journal_room lost_ahead_room : ℕ) (live : List LiveTicket) (lost_ahead : List Cell) (next : ℕ) (stopped : Bool) (journal : List Event) : Type 0 where
   pub events : length journal + places_kept live stopped ≤ journal_room
-  pub cells : length shunned + length live ≤ shunned_room
+  pub cells : length lost_ahead + length live ≤ lost_ahead_room
   pub numbers : next ≤ length journal + 1  -- each ticket has an event
 
 -- the event that a ticket was taken
@@ -45,5 +45,5 @@ abbrev pub unmarked : Ticket → LiveTicket
 unmarked t = record { ticket = t; marked = false }
 
 -- a run ahead that is lost isn't made ahead again
-abbrev pub shunned_after : List Cell → Ticket → List Cell
-shunned_after shunned t = if is_ahead t.kind then shunned ++ t.cell ∷ [] else shunned
+abbrev pub lost_ahead_after : List Cell → Ticket → List Cell
+lost_ahead_after lost_ahead t = if is_ahead t.kind then lost_ahead ++ t.cell ∷ [] else lost_ahead

@@ -19,8 +19,8 @@ quiet_sums truth problem = sums_under problem.rules (quiet (table_of truth probl
 
 -- the run of a procedure over the same
 abbrev pub quiet_by : (Rules → Table → Run) → Option (Key → Outcome) → Problem → Run
-quiet_by plain truth problem = plain problem.rules (quiet (table_of truth problem))
+quiet_by procedure truth problem = procedure problem.rules (quiet (table_of truth problem))
 
 -- the replies are those to the first asks of the procedure
-pub record AreReplied (plain : Rules → Table → Run) (truth : Option (Key → Outcome)) (b : PlainBoard) : Type 0 where
-  pub traced : IsTraced (quiet_sums truth b.problem) (quiet_by plain truth b.problem) b.replies
+pub record AreReplied (procedure : Rules → Table → Run) (truth : Option (Key → Outcome)) (b : PlainBoard) : Type 0 where
+  pub traced : IsTraced (quiet_sums truth b.problem) (quiet_by procedure truth b.problem) b.replies

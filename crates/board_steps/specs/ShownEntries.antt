@@ -17,7 +17,7 @@ use Rattle.board_steps.specs.ProblemRuns.{table_of}
 
 -- the run of a procedure over a problem's truth
 abbrev pub true_by : (Rules → Table → Run) → Option (Key → Outcome) → Problem → Run
-true_by plain truth problem = plain problem.rules (table_of truth problem)
+true_by procedure truth problem = procedure problem.rules (table_of truth problem)
 
 -- the reply at a place is that of the total cost that the question asks for
 pub record IsAnsweredAt (sums : Sums) (replies : List Reply) (place : ℕ) (q : Question) : Type 0 where

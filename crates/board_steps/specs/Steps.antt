@@ -18,8 +18,8 @@ use Rattle.capping.specs.declared.verdicts.Verdict.TheVariants as verdict
 use Rattle.predictor.specs.declared.wish.Wish.{Wish}
 use Rattle.board_steps.specs.declared.answers.Advanced.{Advanced}
 use Rattle.board_steps.specs.declared.answers.Advanced.TheVariants as advanced
-use Rattle.board_steps.specs.declared.answers.Phase.{Phase}
-use Rattle.board_steps.specs.declared.answers.Phase.TheVariants as phase
+use Rattle.board_steps.specs.declared.answers.BoardVerdict.{BoardVerdict}
+use Rattle.board_steps.specs.declared.answers.BoardVerdict.TheVariants as board_verdict
 use Rattle.board_steps.specs.declared.answers.Recorded.{Recorded}
 use Rattle.board_steps.specs.declared.answers.Recorded.TheVariants as recorded
 use Rattle.board_steps.specs.declared.answers.Taken.{Taken}
@@ -30,8 +30,8 @@ use Rattle.board_steps.specs.declared.tickets.Kind.TheVariants.{Asked, Ahead}
 use Rattle.board_steps.specs.declared.tickets.LiveTicket.{LiveTicket}
 use Rattle.board_steps.specs.declared.tickets.Ticket.{Ticket}
 use Rattle.board_steps.specs.Boards.{PlainBoard}
-use Rattle.board_steps.specs.Ledgers.{take_event, unmarked, shunned_after}
-use Rattle.board_steps.specs.Phases.{asked_cell, wishes_on, phase_of}
+use Rattle.board_steps.specs.Ledgers.{take_event, unmarked, lost_ahead_after}
+use Rattle.board_steps.specs.BoardVerdicts.{asked_cell, wishes_on, board_verdict_of}
 use Rattle.board_steps.specs.ProblemRuns.{key_of}
 use Rattle.board_steps.specs.Tickets.{same_cell, has_number, without, found_in, marked, marked_if, mark_events, has_ticket, has_cell, is_unwanted_beside}
 
@@ -68,7 +68,7 @@ ticket_for b kind cell cutoff = record {
 -- a wish that a seat may run ahead, beside a needed cell
 unfoldable pub is_free : PlainBoard → Cell → Wish → Bool
 is_free b needed w = not (has_ticket b.live w.cell)
-    && not (has_cell b.shunned w.cell)
+    && not (has_cell b.lost_ahead w.cell)
     && not (same_cell needed w.cell)
     && not (is_settled (b.known w.cell.config w.cell.place) w.cutoff.0)
 
@@ -117,7 +117,7 @@ recorded_as learnt.Conflict = recorded.Conflict
 unfoldable pub with_loss : PlainBoard → LiveTicket → PlainBoard
 with_loss b l = record b {
   live = without b.live l.ticket.number;
-  shunned = shunned_after b.shunned l.ticket;
+  lost_ahead = lost_ahead_after b.lost_ahead l.ticket;
   journal = b.journal ++ event.Lost l.ticket.number ∷ [];
 }
 
@@ -153,47 +153,47 @@ module _ (shown : Rules → List Reply → View) where
   with_abort b place = record b { aborted = Some (asked_cell shown b place); wishes = []; journal = b.journal ++ event.Advance ∷ [] }
 
   -- a board after an advance, by where it stood
-  abbrev pub advanced_by : PlainBoard → Phase → PlainBoard
-  advanced_by b phase.Stopped = b
-  advanced_by b phase.Aborted = b
-  advanced_by b (phase.Open (verdict.Reply r)) = with_reply b r
-  advanced_by b (phase.Open (verdict.Need place cutoff)) = with_wishes b
-  advanced_by b (phase.Open (verdict.Aborted place)) = with_abort b place
-  advanced_by b (phase.Open verdict.Ended) = b
+  abbrev pub advanced_by : PlainBoard → BoardVerdict → PlainBoard
+  advanced_by b board_verdict.Stopped = b
+  advanced_by b board_verdict.Aborted = b
+  advanced_by b (board_verdict.Open (verdict.Reply r)) = with_reply b r
+  advanced_by b (board_verdict.Open (verdict.Need place cutoff)) = with_wishes b
+  advanced_by b (board_verdict.Open (verdict.Aborted place)) = with_abort b place
+  advanced_by b (board_verdict.Open verdict.Ended) = b
 
   -- a board after an advance
   unfoldable pub after_advance : PlainBoard → PlainBoard
-  after_advance b = advanced_by b (phase_of shown b)
+  after_advance b = advanced_by b (board_verdict_of shown b)
 
   -- what a take comes to, by where the board stands
-  abbrev pub taken_by : PlainBoard → Phase → Taken
-  taken_by b phase.Stopped = taken.Stopped
-  taken_by b phase.Aborted = taken.Ended
-  taken_by b (phase.Open (verdict.Reply r)) = taken.Decided
-  taken_by b (phase.Open (verdict.Need place cutoff)) = taken_beside b (asked_cell shown b place) cutoff.0
-  taken_by b (phase.Open (verdict.Aborted place)) = taken.Decided
-  taken_by b (phase.Open verdict.Ended) = taken.Ended
+  abbrev pub taken_by : PlainBoard → BoardVerdict → Taken
+  taken_by b board_verdict.Stopped = taken.Stopped
+  taken_by b board_verdict.Aborted = taken.Ended
+  taken_by b (board_verdict.Open (verdict.Reply r)) = taken.Decided
+  taken_by b (board_verdict.Open (verdict.Need place cutoff)) = taken_beside b (asked_cell shown b place) cutoff.0
+  taken_by b (board_verdict.Open (verdict.Aborted place)) = taken.Decided
+  taken_by b (board_verdict.Open verdict.Ended) = taken.Ended
 
   -- what a take comes to
   unfoldable pub taken_on : PlainBoard → Taken
-  taken_on b = taken_by b (phase_of shown b)
+  taken_on b = taken_by b (board_verdict_of shown b)
 
   -- a board after a take
   unfoldable pub after_take : PlainBoard → PlainBoard
   after_take b = with_taken b (taken_on b)
 
   -- the run of a live ticket isn't wanted, by where the board stands
-  abbrev pub is_unwanted_by : PlainBoard → Phase → LiveTicket → Bool
-  is_unwanted_by b phase.Stopped l = true
-  is_unwanted_by b phase.Aborted l = true
-  is_unwanted_by b (phase.Open (verdict.Reply r)) l = false
-  is_unwanted_by b (phase.Open (verdict.Need place cutoff)) l = is_unwanted_beside b.wishes (asked_cell shown b place) cutoff.0 l
-  is_unwanted_by b (phase.Open (verdict.Aborted place)) l = false
-  is_unwanted_by b (phase.Open verdict.Ended) l = true
+  abbrev pub is_unwanted_by : PlainBoard → BoardVerdict → LiveTicket → Bool
+  is_unwanted_by b board_verdict.Stopped l = true
+  is_unwanted_by b board_verdict.Aborted l = true
+  is_unwanted_by b (board_verdict.Open (verdict.Reply r)) l = false
+  is_unwanted_by b (board_verdict.Open (verdict.Need place cutoff)) l = is_unwanted_beside b.wishes (asked_cell shown b place) cutoff.0 l
+  is_unwanted_by b (board_verdict.Open (verdict.Aborted place)) l = false
+  is_unwanted_by b (board_verdict.Open verdict.Ended) l = true
 
   -- the run of a live ticket isn't wanted
   unfoldable pub is_unwanted : PlainBoard → LiveTicket → Bool
-  is_unwanted b l = is_unwanted_by b (phase_of shown b) l
+  is_unwanted b l = is_unwanted_by b (board_verdict_of shown b) l
 
   -- a board after marking
   unfoldable pub after_mark : PlainBoard → PlainBoard
@@ -204,17 +204,17 @@ module _ (shown : Rules → List Reply → View) where
   marked_on b = length (mark_events (is_unwanted b) b.live)
 
 -- what an advance comes to, by where the board stood
-abbrev pub advanced_to : Phase → Advanced
-advanced_to phase.Stopped = advanced.Stopped
-advanced_to phase.Aborted = advanced.Aborted
-advanced_to (phase.Open (verdict.Reply r)) = advanced.Moved
-advanced_to (phase.Open (verdict.Need place cutoff)) = advanced.Waits
-advanced_to (phase.Open (verdict.Aborted place)) = advanced.Aborted
-advanced_to (phase.Open verdict.Ended) = advanced.Ended
+abbrev pub advanced_to : BoardVerdict → Advanced
+advanced_to board_verdict.Stopped = advanced.Stopped
+advanced_to board_verdict.Aborted = advanced.Aborted
+advanced_to (board_verdict.Open (verdict.Reply r)) = advanced.Moved
+advanced_to (board_verdict.Open (verdict.Need place cutoff)) = advanced.Waits
+advanced_to (board_verdict.Open (verdict.Aborted place)) = advanced.Aborted
+advanced_to (board_verdict.Open verdict.Ended) = advanced.Ended
 
 -- what an advance comes to
 unfoldable pub advanced_on : (Rules → List Reply → View) → PlainBoard → Advanced
-advanced_on shown b = advanced_to (phase_of shown b)
+advanced_on shown b = advanced_to (board_verdict_of shown b)
 
 -- a board after the end of a live ticket, where there is one
 abbrev pub with_end : (LiveTicket → PlainBoard) → PlainBoard → Option LiveTicket → PlainBoard

@@ -4,7 +4,7 @@ use capping::Verdict;
 
 /// Where a board stands.
 #[derive(Clone, Copy, Debug, PartialEq, Eq)]
-pub enum Phase {
+pub enum BoardVerdict {
     /// It is stopped.
     Stopped,
     /// The walk of an ask came to a run that aborts.

@@ -3,7 +3,7 @@ ghost use Rattle.std.specs.Prelude.{◌≡◌, ◌+◌, ◌-◌, ◌<◌, ◌≤
 ghost use Rattle.std.specs.Vec.{vec_len, vec_capacity};
 ghost use Rattle.std.specs.List.{list_any, sum_by};
 ghost use Rattle.board_steps.specs.Tickets;
-ghost use Rattle.board_steps.specs.Ledgers.{take_event, unmarked, shunned_after, places_of, places_kept};
+ghost use Rattle.board_steps.specs.Ledgers.{take_event, unmarked, lost_ahead_after, places_of, places_kept};
 
 use crate::answers::Standing;
 use crate::events::Event;
@@ -22,7 +22,7 @@ use std::marker::Model;
 #[derive(Drop)]
 pub struct Ledger {
     live: Vec<LiveTicket>,
-    shunned: Vec<Cell>,
+    lost_ahead: Vec<Cell>,
     next: u64,
     stopped: bool,
     journal: Vec<Event>,
@@ -35,9 +35,9 @@ impl Model for Ledger {
 
     ghost Value = { LedgerState };
 
-    ghost view = { λ l. record { live = l.live.items; shunned = l.shunned.items; next = l.next; stopped = l.stopped; journal = l.journal.items; spare = vec_capacity l.journal - (length l.journal.items + places_kept l.live.items l.stopped) } };
+    ghost view = { λ l. record { live = l.live.items; lost_ahead = l.lost_ahead.items; next = l.next; stopped = l.stopped; journal = l.journal.items; spare = vec_capacity l.journal - (length l.journal.items + places_kept l.live.items l.stopped) } };
 
-    ghost invariant = { λ l. HasRoom (vec_capacity l.journal) (vec_capacity l.shunned) l.live.items l.shunned.items l.next l.stopped l.journal.items };
+    ghost invariant = { λ l. HasRoom (vec_capacity l.journal) (vec_capacity l.lost_ahead) l.live.items l.lost_ahead.items l.next l.stopped l.journal.items };
 }
 
 /// Whether a live ticket is of this cell.
@@ -211,13 +211,13 @@ impl Ledger {
     /// A ledger without tickets. It has the room for a stop.
     #[tactic(auto, unfolding(crate::specs::Ledgers::places_kept))]
     pub fn new(alloc: Global) -> Result<Ledger, Memory>
-        ensures { IfOk result (λ l. l ≡ record { live = []; shunned = []; next = 1; stopped = false; journal = []; spare = l.spare }) }
+        ensures { IfOk result (λ l. l ≡ record { live = []; lost_ahead = []; next = 1; stopped = false; journal = []; spare = l.spare }) }
     {
         let mut journal = Vec::new(alloc);
         journal.reserve(1)?;
         Ok(Ledger {
             live: Vec::new(alloc),
-            shunned: Vec::new(alloc),
+            lost_ahead: Vec::new(alloc),
             next: 1,
             stopped: false,
             journal,
@@ -232,10 +232,10 @@ impl Ledger {
     }
 
     /// The cells whose run ahead was lost.
-    pub fn shunned(&self) -> &[Cell]
-        ensures { result.now ≡ self.now.shunned }
+    pub fn lost_ahead(&self) -> &[Cell]
+        ensures { result.now ≡ self.now.lost_ahead }
     {
-        &self.shunned
+        &self.lost_ahead
     }
 
     /// The number of the next ticket.
@@ -320,7 +320,7 @@ impl Ledger {
     {
         let kept = self.kept();
         self.journal.reserve(kept + 3)?;
-        self.shunned.reserve(self.live.len() + 1)?;
+        self.lost_ahead.reserve(self.live.len() + 1)?;
         self.live.reserve(1)?;
         let (number, kind, cutoff, asked_at) = (
             ticket.number,
@@ -357,11 +357,11 @@ impl Ledger {
     #[tactic(auto, unfolding(crate::specs::Ledgers::places_kept))]
     pub fn lose(&mut self, number: u64)
         requires { IsSome (Tickets.live_at self.old.live number) }
-        ensures { IsSomeAnd (Tickets.live_at self.old.live number) (λ l. self.new ≡ record self.old { live = Tickets.without self.old.live number; shunned = shunned_after self.old.shunned l.ticket; journal = self.old.journal ++ Event.Lost number ∷ []; spare = self.new.spare }) }
+        ensures { IsSomeAnd (Tickets.live_at self.old.live number) (λ l. self.new ≡ record self.old { live = Tickets.without self.old.live number; lost_ahead = lost_ahead_after self.old.lost_ahead l.ticket; journal = self.old.journal ++ Event.Lost number ∷ []; spare = self.new.spare }) }
     {
         let LiveTicket { ticket, marked: _ } = remove(&mut self.live, number);
         if ticket.kind == Kind::Ahead {
-            self.shunned.push_reserved(ticket.cell);
+            self.lost_ahead.push_reserved(ticket.cell);
         }
         self.journal.push_reserved(Event::Lost { number });
     }

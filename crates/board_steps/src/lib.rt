@@ -12,7 +12,7 @@ mod problem;
 mod tickets;
 mod truth;
 
-pub use answers::{Advanced, Phase, Recorded, Standing, Taken};
+pub use answers::{Advanced, BoardVerdict, Recorded, Standing, Taken};
 pub use events::Event;
 pub use ledger::{Ledger, has_cell, has_ticket};
 pub use problem::Problem;

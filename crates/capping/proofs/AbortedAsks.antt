@@ -11,7 +11,7 @@ use Rattle.run_cache.specs.Knowledge.{Agrees}
 use Rattle.run_cache.specs.Caches.{Knowledge}
 use Rattle.capping.specs.declared.verdicts.Verdict.TheVariants.{Aborted}
 use Rattle.capping.specs.Verdicts.{verdict_from, verdict_of}
-use Rattle.capping.specs.Decisions.{IfAborted, IsKnownAbort, IsFirstAbort}
+use Rattle.capping.specs.Decisions.{IfAbortedOf, IsKnownAbort, IsFirstAbort}
 use Rattle.capping.proofs.WalkEnds.{IsEnd, IsAborting, walk_end}
 use Rattle.capping.proofs.AbortedPlaces.{first_abort}
 use Rattle.capping.proofs.Promises.{found}
@@ -19,7 +19,7 @@ use Rattle.capping.proofs.Promises.{found}
 -- the place of the abort is known as one, and the costs before it are known
 pub known-abort : (limits : Bounds) (known : Knowledge) (ask : Ask) (place : ℕ) → verdict_of limits known ask ≡ Aborted place
     → IsSomeAnd (question_of ask) (IsKnownAbort known place)
-known-abort limits known ask place e = subst (λ v. IfAborted v ask (IsKnownAbort known)) e (found limits known ask)
+known-abort limits known ask place e = subst (λ v. IfAbortedOf v ask (IsKnownAbort known)) e (found limits known ask)
 
 module _ (limits : Bounds) (known : Knowledge) (T : Table) (agrees : (config : List ℕ) (place : ℕ) → Agrees limits (known config place) (T config place)) where
   -- how the walk of a question ends that comes to an abort

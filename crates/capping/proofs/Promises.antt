@@ -22,7 +22,7 @@ use Rattle.run_cache.specs.Caches.{Knowledge, Cached, AgreesWith, known_in}
 use Rattle.capping.specs.declared.verdicts.Verdict.{Verdict}
 use Rattle.capping.specs.declared.verdicts.Verdict.TheVariants as verdict
 use Rattle.capping.specs.Verdicts.{verdict_from, verdict_of}
-use Rattle.capping.specs.Decisions.{question, place_count, IfReply, IfNeed, IfAborted, OnEnded, IsAtMost, IsNeeded, IsDueAt, IsKnownAbort, IsFirstAbort, GoesOn, AreRanged, NeedsLater, after_run}
+use Rattle.capping.specs.Decisions.{question, place_count, IfReply, IfNeedOf, IfAbortedOf, OnEnded, IsAtMost, IsNeeded, IsDueAt, IsKnownAbort, IsFirstAbort, GoesOn, AreRanged, NeedsLater, after_run}
 use Rattle.capping.specs.ExactSums.{exact_cost, exact_sum}
 use Rattle.capping.proofs.ExactSums.{parts_of}
 use Rattle.capping.proofs.WalkEnds.{IsEnd, walk_end}
@@ -92,7 +92,7 @@ module _ (limits : Bounds) (known : Knowledge) (θ : Settings) (n : ℕ) (bound 
   of_ask P h = subst (λ o. IsSomeAnd o P) (sym asked) h
 
   need_by : AreRanged limits known (question θ n bound) → (v : Verdict) → IsEnd limits (known θ) bound n v
-      → IfNeed v ask (IsNeeded limits known)
+      → IfNeedOf v ask (IsNeeded limits known)
   need_by r (verdict.Reply x) e = tt
   need_by r (verdict.Need place cutoff) e =
       of_ask (IsNeeded limits known place cutoff.0) (needed limits known θ bound n place cutoff r.bounds r.places e)
@@ -101,7 +101,7 @@ module _ (limits : Bounds) (known : Knowledge) (θ : Settings) (n : ℕ) (bound 
 
   -- the same walk after the run that is needed
   goes_on_by : ((other : Knowledge) → verdict_of limits other ask ≡ verdict_from limits (other θ) bound n 1 0)
-      → (v : Verdict) → IsEnd limits (known θ) bound n v → IfNeed v ask (GoesOn limits known ask)
+      → (v : Verdict) → IsEnd limits (known θ) bound n v → IfNeedOf v ask (GoesOn limits known ask)
   goes_on_by value (verdict.Reply r) e = tt
   goes_on_by value (verdict.Need place cutoff) e = of_ask (GoesOn limits known ask place cutoff.0) (record { later = later })
     where
@@ -113,7 +113,7 @@ module _ (limits : Bounds) (known : Knowledge) (θ : Settings) (n : ℕ) (bound 
   goes_on_by value (verdict.Aborted place) e = tt
   goes_on_by value verdict.Ended e = tt
 
-  found_by : (v : Verdict) → IsEnd limits (known θ) bound n v → IfAborted v ask (IsKnownAbort known)
+  found_by : (v : Verdict) → IsEnd limits (known θ) bound n v → IfAbortedOf v ask (IsKnownAbort known)
   found_by (verdict.Reply r) e = tt
   found_by (verdict.Need place cutoff) e = tt
   found_by (verdict.Aborted place) e = of_ask (IsKnownAbort known place) (known_abort known θ bound n place e)
@@ -133,14 +133,14 @@ module _ (limits : Bounds) (known : Knowledge) (θ : Settings) (n : ℕ) (bound 
     reply_by (verdict.Aborted place) e = tt
     reply_by verdict.Ended e = tt
 
-    due_by : (v : Verdict) → IsEnd limits (known θ) bound n v → IfNeed v ask (IsDueAt limits T)
+    due_by : (v : Verdict) → IsEnd limits (known θ) bound n v → IfNeedOf v ask (IsDueAt limits T)
     due_by (verdict.Reply r) e = tt
     due_by (verdict.Need place cutoff) e =
         of_ask (IsDueAt limits T place cutoff.0) (record { due = due limits T θ (known θ) agrees bound n place cutoff e })
     due_by (verdict.Aborted place) e = tt
     due_by verdict.Ended e = tt
 
-    aborted_by : (v : Verdict) → IsEnd limits (known θ) bound n v → IfAborted v ask (IsFirstAbort limits T)
+    aborted_by : (v : Verdict) → IsEnd limits (known θ) bound n v → IfAbortedOf v ask (IsFirstAbort limits T)
     aborted_by (verdict.Reply r) e = tt
     aborted_by (verdict.Need place cutoff) e = tt
     aborted_by (verdict.Aborted place) e =
@@ -170,19 +170,19 @@ module _ (limits : Bounds) (known : Knowledge) where
   bounded End r = tt
 
   -- a run that is needed
-  pub needs : (ask : Ask) → IfSome (question_of ask) (AreRanged limits known) → IfNeed (verdict_of limits known ask) ask (IsNeeded limits known)
+  pub needs : (ask : Ask) → IfSome (question_of ask) (AreRanged limits known) → IfNeedOf (verdict_of limits known ask) ask (IsNeeded limits known)
   needs (Full θ n) r = need_by limits known θ n None (Full θ n) refl r _ (full_end θ n)
   needs (Versus θ n bound) r = need_by limits known θ n (Some bound.0) (Versus θ n bound) refl r _ (versus_end θ n bound)
   needs End r = tt
 
   -- once its answer is learnt, none is needed there again
-  pub goes_on : (ask : Ask) → IfNeed (verdict_of limits known ask) ask (GoesOn limits known ask)
+  pub goes_on : (ask : Ask) → IfNeedOf (verdict_of limits known ask) ask (GoesOn limits known ask)
   goes_on (Full θ n) = goes_on_by limits known θ n None (Full θ n) refl (λ other. refl) _ (full_end θ n)
   goes_on (Versus θ n bound) = goes_on_by limits known θ n (Some bound.0) (Versus θ n bound) refl (λ other. refl) _ (versus_end θ n bound)
   goes_on End = tt
 
   -- a run that is known to abort
-  pub found : (ask : Ask) → IfAborted (verdict_of limits known ask) ask (IsKnownAbort known)
+  pub found : (ask : Ask) → IfAbortedOf (verdict_of limits known ask) ask (IsKnownAbort known)
   found (Full θ n) = found_by limits known θ n None (Full θ n) refl _ (full_end θ n)
   found (Versus θ n bound) = found_by limits known θ n (Some bound.0) (Versus θ n bound) refl _ (versus_end θ n bound)
   found End = tt
@@ -204,13 +204,13 @@ module _ (c : Cached) (T : Table) (a : AgreesWith T c) where
   replies End = tt
 
   -- the cutoff of a run that is needed is due
-  pub is_due : (ask : Ask) → IfNeed (verdict_of c.limits (known_in c) ask) ask (IsDueAt c.limits T)
+  pub is_due : (ask : Ask) → IfNeedOf (verdict_of c.limits (known_in c) ask) ask (IsDueAt c.limits T)
   is_due (Full θ n) = due_by c.limits (known_in c) θ n None (Full θ n) refl T (a.cells θ) _ (full_end c.limits (known_in c) θ n)
   is_due (Versus θ n bound) = due_by c.limits (known_in c) θ n (Some bound.0) (Versus θ n bound) refl T (a.cells θ) _ (versus_end c.limits (known_in c) θ n bound)
   is_due End = tt
 
   -- a run that aborts is due, and none before it aborts
-  pub aborts : (ask : Ask) → IfAborted (verdict_of c.limits (known_in c) ask) ask (IsFirstAbort c.limits T)
+  pub aborts : (ask : Ask) → IfAbortedOf (verdict_of c.limits (known_in c) ask) ask (IsFirstAbort c.limits T)
   aborts (Full θ n) = aborted_by c.limits (known_in c) θ n None (Full θ n) refl T (a.cells θ) _ (full_end c.limits (known_in c) θ n)
   aborts (Versus θ n bound) = aborted_by c.limits (known_in c) θ n (Some bound.0) (Versus θ n bound) refl T (a.cells θ) _ (versus_end c.limits (known_in c) θ n bound)
   aborts End = tt

@@ -44,19 +44,26 @@ IfReply (TheVariants.Need place cutoff) P = Unit {0}
 IfReply (TheVariants.Aborted place) P = Unit {0}
 IfReply TheVariants.Ended P = Unit {0}
 
+-- the fact of the place and the cutoff, where a run is needed
+abbrev pub IfNeed : Verdict → (ℕ → ℕ → Type 0) → Type 0
+IfNeed (TheVariants.Reply r) P = Unit {0}
+IfNeed (TheVariants.Need place cutoff) P = P place cutoff.0
+IfNeed (TheVariants.Aborted place) P = Unit {0}
+IfNeed TheVariants.Ended P = Unit {0}
+
 -- the fact of the place, the cutoff and the question, where a run is needed
-abbrev pub IfNeed : Verdict → Ask → (ℕ → ℕ → Question → Type 0) → Type 0
-IfNeed (TheVariants.Reply r) ask P = Unit {0}
-IfNeed (TheVariants.Need place cutoff) ask P = IsSomeAnd (question_of ask) (P place cutoff.0)
-IfNeed (TheVariants.Aborted place) ask P = Unit {0}
-IfNeed TheVariants.Ended ask P = Unit {0}
+abbrev pub IfNeedOf : Verdict → Ask → (ℕ → ℕ → Question → Type 0) → Type 0
+IfNeedOf (TheVariants.Reply r) ask P = Unit {0}
+IfNeedOf (TheVariants.Need place cutoff) ask P = IsSomeAnd (question_of ask) (P place cutoff.0)
+IfNeedOf (TheVariants.Aborted place) ask P = Unit {0}
+IfNeedOf TheVariants.Ended ask P = Unit {0}
 
 -- the fact of the place and the question, where its run asked for the end of the tuning
-abbrev pub IfAborted : Verdict → Ask → (ℕ → Question → Type 0) → Type 0
-IfAborted (TheVariants.Reply r) ask P = Unit {0}
-IfAborted (TheVariants.Need place cutoff) ask P = Unit {0}
-IfAborted (TheVariants.Aborted place) ask P = IsSomeAnd (question_of ask) (P place)
-IfAborted TheVariants.Ended ask P = Unit {0}
+abbrev pub IfAbortedOf : Verdict → Ask → (ℕ → Question → Type 0) → Type 0
+IfAbortedOf (TheVariants.Reply r) ask P = Unit {0}
+IfAbortedOf (TheVariants.Need place cutoff) ask P = Unit {0}
+IfAbortedOf (TheVariants.Aborted place) ask P = IsSomeAnd (question_of ask) (P place)
+IfAbortedOf TheVariants.Ended ask P = Unit {0}
 
 -- the fact, where nothing is asked for
 abbrev pub OnEnded : Verdict → Type 0 → Type 0

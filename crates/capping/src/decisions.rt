@@ -8,7 +8,7 @@ ghost use Rattle.ils_face.specs.Traces.{question_of, IsReplyBy};
 ghost use Rattle.run_cache.specs.Caches.{known_at, known_in, AgreesWith, IsRow};
 ghost use Rattle.capping.specs.Verdicts as verdicts;
 ghost use Rattle.capping.specs.Verdicts.{verdict_from, verdict_of};
-ghost use Rattle.capping.specs.Decisions.{place_count, bound_of, question, IfReply, IfNeed, IfAborted, OnEnded, IsAtMost, IsNeeded, IsDueAt, GoesOn, IsKnownAbort, IsFirstAbort, AreRanged};
+ghost use Rattle.capping.specs.Decisions.{place_count, bound_of, question, IfReply, IfNeedOf, IfAbortedOf, OnEnded, IsAtMost, IsNeeded, IsDueAt, GoesOn, IsKnownAbort, IsFirstAbort, AreRanged};
 
 use crate::verdicts::Verdict;
 use ils_face::{Ask, Reply};
@@ -112,16 +112,16 @@ pub fn decide(cache: &Cache, ask: &Ask) -> Verdict
     // Whatever is known.
     ensures fits { IfReply result (Fits ask.now) }
     ensures bound { IfReply result (IsAtMost (place_count ask.now * (1000 * max_cutoff))) }
-    ensures need { IfNeed result ask.now (IsNeeded cache.now.limits (known_in cache.now)) }
-    ensures progress { IfNeed result ask.now (GoesOn cache.now.limits (known_in cache.now) ask.now) }
-    ensures found { IfAborted result ask.now (IsKnownAbort (known_in cache.now)) }
+    ensures need { IfNeedOf result ask.now (IsNeeded cache.now.limits (known_in cache.now)) }
+    ensures progress { IfNeedOf result ask.now (GoesOn cache.now.limits (known_in cache.now) ask.now) }
+    ensures found { IfAbortedOf result ask.now (IsKnownAbort (known_in cache.now)) }
     ensures ended { OnEnded result (ask.now ≡ Ask.End) }
 
     // For every table with which the cache agrees.
     ensures reply { (T : Table) → AgreesWith T cache.now
         → IfReply result (λ r. IsSomeAnd (question_of ask.now) (IsReplyBy (total_cost cache.now.limits (quiet T)) r)) }
-    ensures due { (T : Table) → AgreesWith T cache.now → IfNeed result ask.now (IsDueAt cache.now.limits T) }
-    ensures aborted { (T : Table) → AgreesWith T cache.now → IfAborted result ask.now (IsFirstAbort cache.now.limits T) }
+    ensures due { (T : Table) → AgreesWith T cache.now → IfNeedOf result ask.now (IsDueAt cache.now.limits T) }
+    ensures aborted { (T : Table) → AgreesWith T cache.now → IfAbortedOf result ask.now (IsFirstAbort cache.now.limits T) }
 {
     verdict_on(cache, ask)
 }

@@ -8,7 +8,7 @@ use Rattle.ils_face.specs.Rules.{Rules}
 use Rattle.ils_face.specs.Trajectories.{newest, IsTrajectory}
 use Rattle.ils_face.specs.declared.asks.Reply.{Reply}
 use Rattle.ils_face.specs.declared.asks.Reply.TheVariants.{Exact, Exceeds}
-use Rattle.ils_frame.specs.Comparers.{Phase, Ready, Asking, Decided, Parts, AreCostsKnown}
+use Rattle.ils_frame.specs.Comparers.{AskedStage, Ready, Asking, Decided, Parts, AreCostsKnown}
 use Rattle.focused_ils.specs.Counts.{Counts, count_in, no_counts, raised}
 
 -- a turn of a comparison, in which both configurations are evaluated on so many places
@@ -68,12 +68,12 @@ question_at last (Further θ n) = in_full last θ n
 question_at last (Compared won) = record { config = last.config; places = 0; bound = None }
 
 -- what is asked for, or what the comparison came to
-abbrev pub phase_at : Incumbent → Place → Phase
-phase_at last Opened = Ready
-phase_at last (High turn) = Asking (question_at last (High turn))
-phase_at last (Low turn bound) = Asking (question_at last (Low turn bound))
-phase_at last (Further θ n) = Asking (question_at last (Further θ n))
-phase_at last (Compared won) = Decided won
+abbrev pub stage_at : Incumbent → Place → AskedStage
+stage_at last Opened = Ready
+stage_at last (High turn) = Asking (question_at last (High turn))
+stage_at last (Low turn bound) = Asking (question_at last (Low turn bound))
+stage_at last (Further θ n) = Asking (question_at last (Further θ n))
+stage_at last (Compared won) = Decided won
 
 -- whether the incumbent goes first
 abbrev pub is_incumbent_first : Incumbent → Place → Bool
@@ -320,7 +320,7 @@ state_at_begin c θ φ m = record {
 -- how FocusedILS goes on, and what it shows
 abbrev pub focused_parts : Parts State
 focused_parts = record {
-  phase = λ c. phase_at c.tally.last c.place;
+  stage = λ c. stage_at c.tally.last c.place;
   last = λ c. c.tally.last;
   entries = λ c. c.entries;
   after = state_after;

@@ -7,7 +7,7 @@ use Rattle.ils_frame.specs.Comparers.{question_in}
 use Rattle.focused_ils.specs.declared.step.Step.{Step}
 use Rattle.focused_ils.specs.declared.step.Step.TheVariants as step
 use Rattle.focused_ils.specs.Counts.{Counts, count_in}
-use Rattle.focused_ils.specs.State.{Turn, Place, Opened, High, Low, Further, Compared, is_incumbent_first, question_at, phase_at, is_extended, last_where, place_next, first_turn}
+use Rattle.focused_ils.specs.State.{Turn, Place, Opened, High, Low, Further, Compared, is_incumbent_first, question_at, stage_at, is_extended, last_where, place_next, first_turn}
 
 -- the incumbent, and how far the comparison is
 pub record Held : Type 0 where
@@ -52,7 +52,7 @@ AreForStep first_is_low incumbent high low (step.Compared won) = Unit {0}
 
 -- an evaluation is asked for
 abbrev pub IsAsking : Held → Type 0
-IsAsking c = IsSome (question_in (phase_at c.last c.place))
+IsAsking c = IsSome (question_in (stage_at c.last c.place))
 
 -- the evaluation that is asked for
 abbrev pub asked_in : Held → Question

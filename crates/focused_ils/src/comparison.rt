@@ -3,7 +3,7 @@ ghost use Rattle.std.specs.Prelude.{ℕ, ◌≡◌, ◌+◌, min, ◌&&◌, not,
 ghost use Rattle.ils_face.specs.Replies.{ask_of};
 ghost use Rattle.ils_frame.specs.Comparers.{stage_of, decision_in};
 ghost use Rattle.focused_ils.specs.Counts.{Counts, count_in};
-ghost use Rattle.focused_ils.specs.State.{Turn, Opened, High, first_incumbent, first_turn, low_dominates as low_does, high_dominates as high_does, place_after_turn, is_incumbent_first as goes_first, is_better as better_by, is_extended, entry as entry_of, last_where, phase_at, place_next, bonus_next};
+ghost use Rattle.focused_ils.specs.State.{Turn, Opened, High, first_incumbent, first_turn, low_dominates as low_does, high_dominates as high_does, place_after_turn, is_incumbent_first as goes_first, is_better as better_by, is_extended, entry as entry_of, last_where, stage_at, place_next, bonus_next};
 ghost use Rattle.focused_ils.specs.View.{first_seen, IsAsking, asked_in, IfLow, held_extended, held_at_begin, place_from};
 
 use crate::counts::Counts;
@@ -152,7 +152,7 @@ impl Comparison {
 
     /// How far it is.
     pub fn stage(&self) -> Stage
-        ensures { result ≡ stage_of (phase_at self.now.last self.now.place) }
+        ensures { result ≡ stage_of (stage_at self.now.last self.now.place) }
     {
         match self.step {
             Step::Opened => Stage::Ready,
@@ -351,7 +351,7 @@ impl Comparison {
 
     /// What the comparison comes to by this reply, or nothing where an ask follows.
     pub fn decided_by(&self, counts: &Counts, reply: Reply) -> Option<bool>
-        ensures { (max_runs bonus : ℕ) → result ≡ decision_in (phase_at self.now.last (place_from max_runs counts.now bonus self.now reply)) }
+        ensures { (max_runs bonus : ℕ) → result ≡ decision_in (stage_at self.now.last (place_from max_runs counts.now bonus self.now reply)) }
     {
         if self.is_incumbent_first() {
             return None;

@@ -3,7 +3,7 @@ ghost use Rattle.std.specs.Prelude.{◌≡◌, ◌==◌, ◌++◌, ◌∷◌, []
 ghost use Rattle.ils_face.specs.Replies.{ask_for};
 ghost use Rattle.ils_frame.specs.Comparers.{question_in};
 ghost use Rattle.focused_ils.specs.Counts.{count_in};
-ghost use Rattle.focused_ils.specs.State.{phase_at, is_incumbent_first, is_better, question_at, bonus_more, state_counted, state_next};
+ghost use Rattle.focused_ils.specs.State.{stage_at, is_incumbent_first, is_better, question_at, bonus_more, state_counted, state_next};
 
 use crate::comparison::Comparison;
 use crate::counts::Counts;
@@ -65,7 +65,7 @@ impl Focused {
     /// Counts the evaluation that was asked for, and keeps the new incumbent. Where there is
     /// no memory left, all is as it was.
     fn count(&mut self, reply: Reply) -> Result<(), Memory>
-        requires { IsSome (question_in (phase_at self.old.tally.last self.old.place)) }
+        requires { IsSome (question_in (stage_at self.old.tally.last self.old.place)) }
         ensures ok { OnOk result (self.new ≡ state_counted self.old reply) }
         ensures err { OnErr result (self.new ≡ self.old) }
     {

@@ -9,41 +9,41 @@ use Rattle.ils_face.specs.declared.asks.Reply.TheVariants.{Exact}
 use Rattle.ils_face.specs.Replies.{Fits, ask_of, reply_up_to, cost_asked}
 use Rattle.ils_face.specs.Trajectories.{newest, IsTrajectory}
 use Rattle.ils_frame.specs.declared.pending.Stage.{Stage}
-use Rattle.ils_frame.specs.declared.pending.Stage.TheVariants as stage
+use Rattle.ils_frame.specs.declared.pending.Stage.TheVariants as stages
 
 -- how far a comparer is, with its question
-pub data Phase : Type 0 where
-  Ready : Phase  -- nothing was compared yet
-  Asking : Question → Phase
-  Decided : Bool → Phase
+pub data AskedStage : Type 0 where
+  Ready : AskedStage  -- nothing was compared yet
+  Asking : Question → AskedStage
+  Decided : Bool → AskedStage
 
--- the phase without its question
-abbrev pub stage_of : Phase → Stage
-stage_of Ready = stage.Ready
-stage_of (Asking q) = stage.Asking
-stage_of (Decided b) = stage.Decided b
+-- the stage without its question
+abbrev pub stage_of : AskedStage → Stage
+stage_of Ready = stages.Ready
+stage_of (Asking q) = stages.Asking
+stage_of (Decided b) = stages.Decided b
 
 -- the open question, where there is one
-abbrev pub question_in : Phase → Option Question
+abbrev pub question_in : AskedStage → Option Question
 question_in Ready = None
 question_in (Asking q) = Some q
 question_in (Decided b) = None
 
 -- what it came to, where nothing is asked
-abbrev pub decision_in : Phase → Option Bool
+abbrev pub decision_in : AskedStage → Option Bool
 decision_in Ready = Some false
 decision_in (Asking q) = None
 decision_in (Decided b) = Some b
 
 -- whether an ask is open
-abbrev pub is_asking : Phase → Bool
+abbrev pub is_asking : AskedStage → Bool
 is_asking Ready = false
 is_asking (Asking q) = true
 is_asking (Decided b) = false
 
 -- how a comparer of states S goes on, what it shows, and how the procedure's state goes on with it
 pub record Parts (S : Type 0) : Type 0 where
-  pub phase : S → Phase
+  pub stage : S → AskedStage
   pub last : S → Incumbent  -- the incumbent with its runs and their cost, and the comparison's number
   pub entries : S → List Incumbent
   pub after : S → Reply → S
@@ -79,7 +79,7 @@ pub record Answered {S : Type 0} (parts : Parts S) (fit : S → Type 0) (c : S) 
 pub record Begun {S : Type 0} (parts : Parts S) (fit : S → Type 0) (max_runs : ℕ) (c d : S) (m : ℕ) : Type 0 where
   pub stays_fit : fit d
   pub few : parts.left d ≤ 8 * max_runs + 16
-  pub asks_first : is_asking (parts.phase d) ≡ true
+  pub asks_first : is_asking (parts.stage d) ≡ true
   pub same_entries : parts.entries d ≡ parts.entries c
   pub compared : (parts.last d).compared ≡ m
   pub incumbent : SameIncumbent (parts.last c) (parts.last d)
@@ -95,13 +95,13 @@ pub record IsSteadyComparer {S : Type 0} (parts : Parts S) (fit : S → Type 0) 
   pub opened : fit first
   pub few : parts.left first ≤ 8 * max_runs + 16
   pub nothing_yet : parts.last first ≡ record { compared = 0; runs = 0; sum = 0; config = start }
-  pub in_range : (c : S) (q : Question) → fit c → parts.phase c ≡ Asking q → InRange max_runs allowed q
+  pub in_range : (c : S) (q : Question) → fit c → parts.stage c ≡ Asking q → InRange max_runs allowed q
   pub trajectory : (c : S) → fit c → IsTrajectory max_runs allowed (parts.entries c) (parts.last c)
-  pub entered : (c : S) → fit c → question_in (parts.phase c) ≡ None → IsSome (newest (parts.entries c))
-  pub ready_first : (c : S) → fit c → parts.phase c ≡ Ready → (parts.last c).compared ≡ 0
-  pub decided_later : (c : S) (b : Bool) → fit c → parts.phase c ≡ Decided b → 1 ≤ (parts.last c).compared
-  pub answered : (c : S) (q : Question) (r : Reply) → fit c → parts.phase c ≡ Asking q → Fits (ask_of q.config q.places q.bound) r → Answered parts fit c q r
-  pub begins : (c : S) (θ φ : Settings) (m : ℕ) → fit c → question_in (parts.phase c) ≡ None → (parts.last c).compared < m → allowed θ → allowed φ
+  pub entered : (c : S) → fit c → question_in (parts.stage c) ≡ None → IsSome (newest (parts.entries c))
+  pub ready_first : (c : S) → fit c → parts.stage c ≡ Ready → (parts.last c).compared ≡ 0
+  pub decided_later : (c : S) (b : Bool) → fit c → parts.stage c ≡ Decided b → 1 ≤ (parts.last c).compared
+  pub answered : (c : S) (q : Question) (r : Reply) → fit c → parts.stage c ≡ Asking q → Fits (ask_of q.config q.places q.bound) r → Answered parts fit c q r
+  pub begins : (c : S) (θ φ : Settings) (m : ℕ) → fit c → question_in (parts.stage c) ≡ None → (parts.last c).compared < m → allowed θ → allowed φ
       → Begun parts fit max_runs c (parts.begun c θ φ m) m
 
 -- ---- with the replies of total costs
@@ -147,9 +147,9 @@ pub record Keeps {S : Type 0} (parts : Parts S) (fit : S → Type 0) (stands : S
   pub opened : stands first (opened_state parts setup first)
   pub opens : coming first (opened_state parts setup first) ≡ (opening >>= λ _. give false) (at_first setup)
   pub redrawn : (c : S) (s : PlainState) (e : ℕ) → stands c s → stands c (record s { event = e })
-  pub answered : (c : S) (s : PlainState) (q : Question) (x : ℕ) → fit c → stands c s → parts.phase c ≡ Asking q → cost_asked sums q ≡ Some x → GoesOn parts stands coming c s q (reply_up_to x q.bound)
-  pub aborts : (c : S) (s : PlainState) (q : Question) → fit c → stands c s → parts.phase c ≡ Asking q → cost_asked sums q ≡ None → coming c s ≡ Ends (after_ask q.config q.places q.bound s) Aborted
-  pub begins : (c : S) (s : PlainState) (θ φ : Settings) (m : ℕ) → fit c → stands c s → question_in (parts.phase c) ≡ None → Starts parts stands coming better c θ φ m s
+  pub answered : (c : S) (s : PlainState) (q : Question) (x : ℕ) → fit c → stands c s → parts.stage c ≡ Asking q → cost_asked sums q ≡ Some x → GoesOn parts stands coming c s q (reply_up_to x q.bound)
+  pub aborts : (c : S) (s : PlainState) (q : Question) → fit c → stands c s → parts.stage c ≡ Asking q → cost_asked sums q ≡ None → coming c s ≡ Ends (after_ask q.config q.places q.bound s) Aborted
+  pub begins : (c : S) (s : PlainState) (θ φ : Settings) (m : ℕ) → fit c → stands c s → question_in (parts.stage c) ≡ None → Starts parts stands coming better c θ φ m s
   pub known : (c : S) (s : PlainState) → fit c → stands c s → AreCostsKnown sums s
-  pub ended : (c : S) (s : PlainState) (b : Bool) → decision_in (parts.phase c) ≡ Some b → coming c s ≡ Goes s b
+  pub ended : (c : S) (s : PlainState) (b : Bool) → decision_in (parts.stage c) ≡ Some b → coming c s ≡ Goes s b
   pub last : (c : S) (s : PlainState) → fit c → stands c s → parts.last c ≡ last_of sums s

@@ -39,11 +39,11 @@ module _ {S : Type 0} (parts : Parts S) (setup : Setup) where
 
   -- the machine before any reply
   abbrev pub first_machine : S → Machine S
-  first_machine first = settle first Opening 0 (decision_in (parts.phase first))
+  first_machine first = settle first Opening 0 (decision_in (parts.stage first))
 
   -- the machine after one more reply
   abbrev pub next_machine : Machine S → Reply → Machine S
-  next_machine f r = settle (parts.after f.comparer r) f.pending f.event (decision_in (parts.phase (parts.after f.comparer r)))
+  next_machine f r = settle (parts.after f.comparer r) f.pending f.event (decision_in (parts.stage (parts.after f.comparer r)))
 
   -- the machine after these replies
   unfoldable pub after_all : Machine S → List Reply → Machine S
@@ -58,7 +58,7 @@ module _ {S : Type 0} (parts : Parts S) (setup : Setup) where
   -- what the machine shows
   abbrev pub view_of : Machine S → View
   view_of f = record {
-    ask = ask_for (question_in (parts.phase f.comparer));
+    ask = ask_for (question_in (parts.stage f.comparer));
     entries = parts.entries f.comparer;
     last = parts.last f.comparer;
     left = answers_left (setup.budget - (parts.last f.comparer).compared) + parts.left f.comparer;

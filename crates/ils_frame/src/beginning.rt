@@ -18,7 +18,7 @@ use std::alloc::Global;
 /// Begins a comparison where one is left in the budget, and says whether there was one.
 /// Takes no memory.
 fn begins<C: Comparer>(comparer: &mut C, rules: &Rules, first: Config, second: Config) -> bool
-    requires ready { question_in (C.parts.phase comparer.old) ≡ None }
+    requires ready { question_in (C.parts.stage comparer.old) ≡ None }
     requires within { (C.parts.last comparer.old).compared ≤ rules.now.budget }
     ensures comparer { comparer.new ≡ (if (C.parts.last comparer.old).compared == rules.now.budget then comparer.old else C.parts.begun comparer.old first second ((C.parts.last comparer.old).compared + 1)) }
     ensures left { result ≡ not ((C.parts.last comparer.old).compared == rules.now.budget) }
@@ -38,7 +38,7 @@ pub(crate) fn begin<C: Comparer>(
     rules: &Rules,
     upcoming: Upcoming,
 )
-    requires ready { question_in (C.parts.phase comparer.old) ≡ None }
+    requires ready { question_in (C.parts.stage comparer.old) ≡ None }
     requires within { (C.parts.last comparer.old).compared ≤ rules.now.budget }
     ensures { machine_of comparer.new course.new ≡ Machine.begin C.parts (setup_of rules.now) comparer.old (upcoming_seen course.old.pending course.old.event upcoming) }
 {

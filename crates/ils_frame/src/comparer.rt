@@ -49,28 +49,28 @@ pub trait Comparer: Sized + Drop {
 
     /// How far it is. Takes no memory, as all the calls that only read.
     fn stage(&self) -> Stage
-        ensures { result ≡ stage_of (parts.phase self.now) };
+        ensures { result ≡ stage_of (parts.stage self.now) };
 
     /// The open ask.
     fn ask(&self) -> &Ask
-        requires { IsSome (question_in (parts.phase self.now)) }
-        ensures { result.now ≡ ask_for (question_in (parts.phase self.now)) };
+        requires { IsSome (question_in (parts.stage self.now)) }
+        ensures { result.now ≡ ask_for (question_in (parts.stage self.now)) };
 
     /// What the comparison comes to by this reply, or nothing where an ask follows.
     fn decided_by(&self, reply: Reply) -> Option<bool>
-        requires { Fits (ask_for (question_in (parts.phase self.now))) reply }
-        ensures { result ≡ decision_in (parts.phase (parts.after self.now reply)) };
+        requires { Fits (ask_for (question_in (parts.stage self.now))) reply }
+        ensures { result ≡ decision_in (parts.stage (parts.after self.now reply)) };
 
     /// Takes the reply to the open ask. Where there is no memory left, all is as it was.
     fn answer(&mut self, reply: Reply) -> Result<(), Memory>
-        requires { Fits (ask_for (question_in (parts.phase self.old))) reply }
+        requires { Fits (ask_for (question_in (parts.stage self.old))) reply }
         ensures ok { OnOk result (self.new ≡ parts.after self.old reply) }
         ensures err { OnErr result (self.new ≡ self.old) };
 
     /// Begins a comparison of this number, which is greater than the last one's and at most
     /// `MAX_COMPARISONS`. Takes no memory.
     fn begin(&mut self, first: Config, second: Config, compared: u32)
-        requires ready { question_in (parts.phase self.old) ≡ None }
+        requires ready { question_in (parts.stage self.old) ≡ None }
         requires later { (parts.last self.old).compared < compared }
         requires within { compared ≤ Limits.max_comparisons }
         ensures { self.new ≡ parts.begun self.old first second compared };

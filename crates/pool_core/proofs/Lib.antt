@@ -1,7 +1,7 @@
 mod TicketEnds
 mod Standings
 mod Halts
-mod PresentPhases
+mod PresentVerdicts
 mod DecidedAsks
 mod NoWishes
 mod Offers

@@ -12,7 +12,7 @@ use Rattle.run_cache.specs.Learning.{lesson}
 use Rattle.board_steps.specs.declared.answers.Recorded.TheVariants.{Marked, Stranger}
 use Rattle.board_steps.specs.declared.tickets.LiveTicket.{LiveTicket}
 use Rattle.board_steps.specs.declared.tickets.Ticket.{Ticket}
-use Rattle.board_steps.specs.Boards.{BoardState, plain}
+use Rattle.board_steps.specs.Boards.{BoardState, plain_board}
 use Rattle.board_steps.specs.Steps.{with_end, with_record, with_given_up, with_answer, with_loss, with_kill, after_record, after_lost, after_killed, recorded_on, recorded_by, recorded_as, learnt_from}
 use Rattle.board_steps.specs.Numbering.{IsTicket, tickets_of}
 use Rattle.board_steps.specs.Problem.{Problem}
@@ -46,63 +46,63 @@ pub is-some : (o : Option LiveTicket) (l : LiveTicket) → o ≡ Some l → IsSo
 is-some o l is = let P : Option LiveTicket → Type 0 = λ x. IsSome x in subst P (sym is) refl
 
 -- a marked ticket is given up
-pub killed-marked : (b : BoardState) (t : Ticket) (l : LiveTicket) → Some l ≡ found_in b.live t → l.marked ≡ true → with_kill (plain b) l ≡ after_killed (plain b) t
-unfolding after_killed plain
-killed-marked b t l found is = sym (ap (with_end (with_given_up (plain b)) (plain b)) (sym found) ∙ ap (λ m. if m then with_kill (plain b) l else plain b) is)
+pub killed-marked : (b : BoardState) (t : Ticket) (l : LiveTicket) → Some l ≡ found_in b.live t → l.marked ≡ true → with_kill (plain_board b) l ≡ after_killed (plain_board b) t
+unfolding after_killed plain_board
+killed-marked b t l found is = sym (ap (with_end (with_given_up (plain_board b)) (plain_board b)) (sym found) ∙ ap (λ m. if m then with_kill (plain_board b) l else plain_board b) is)
 
 -- a ticket that isn't marked isn't given up
-pub killed-live : (b : BoardState) (t : Ticket) (l : LiveTicket) → Some l ≡ found_in b.live t → l.marked ≡ false → plain b ≡ after_killed (plain b) t
-unfolding after_killed plain
-killed-live b t l found is = sym (ap (with_end (with_given_up (plain b)) (plain b)) (sym found) ∙ ap (λ m. if m then with_kill (plain b) l else plain b) is)
+pub killed-live : (b : BoardState) (t : Ticket) (l : LiveTicket) → Some l ≡ found_in b.live t → l.marked ≡ false → plain_board b ≡ after_killed (plain_board b) t
+unfolding after_killed plain_board
+killed-live b t l found is = sym (ap (with_end (with_given_up (plain_board b)) (plain_board b)) (sym found) ∙ ap (λ m. if m then with_kill (plain_board b) l else plain_board b) is)
 
 -- a strange ticket changes nothing
-pub killed-none : (b : BoardState) (t : Ticket) → None ≡ found_in b.live t → plain b ≡ after_killed (plain b) t
-unfolding after_killed plain
-killed-none b t none = sym (ap (with_end (with_given_up (plain b)) (plain b)) (sym none))
+pub killed-none : (b : BoardState) (t : Ticket) → None ≡ found_in b.live t → plain_board b ≡ after_killed (plain_board b) t
+unfolding after_killed plain_board
+killed-none b t none = sym (ap (with_end (with_given_up (plain_board b)) (plain_board b)) (sym none))
 
 -- a live ticket is lost
-pub lost-live : (b : BoardState) (t : Ticket) (l : LiveTicket) → Some l ≡ found_in b.live t → with_loss (plain b) l ≡ after_lost (plain b) t
-unfolding after_lost plain
-lost-live b t l found = sym (ap (with_end (with_loss (plain b)) (plain b)) (sym found))
+pub lost-live : (b : BoardState) (t : Ticket) (l : LiveTicket) → Some l ≡ found_in b.live t → with_loss (plain_board b) l ≡ after_lost (plain_board b) t
+unfolding after_lost plain_board
+lost-live b t l found = sym (ap (with_end (with_loss (plain_board b)) (plain_board b)) (sym found))
 
 -- a strange ticket changes nothing
-pub lost-none : (b : BoardState) (t : Ticket) → None ≡ found_in b.live t → plain b ≡ after_lost (plain b) t
-unfolding after_lost plain
-lost-none b t none = sym (ap (with_end (with_loss (plain b)) (plain b)) (sym none))
+pub lost-none : (b : BoardState) (t : Ticket) → None ≡ found_in b.live t → plain_board b ≡ after_lost (plain_board b) t
+unfolding after_lost plain_board
+lost-none b t none = sym (ap (with_end (with_loss (plain_board b)) (plain_board b)) (sym none))
 
 -- the answer of a live ticket is recorded
 pub record-live : (b : BoardState) (t : Ticket) (answer : Answer) (l : LiveTicket) → Some l ≡ found_in b.live t → l.marked ≡ false
-    → with_answer (plain b) answer l ≡ after_record (plain b) t answer
-unfolding after_record plain
-record-live b t answer l found is = sym (ap (with_end (with_record (plain b) answer) (plain b)) (sym found) ∙ ap (λ m. if m then plain b else with_answer (plain b) answer l) is)
+    → with_answer (plain_board b) answer l ≡ after_record (plain_board b) t answer
+unfolding after_record plain_board
+record-live b t answer l found is = sym (ap (with_end (with_record (plain_board b) answer) (plain_board b)) (sym found) ∙ ap (λ m. if m then plain_board b else with_answer (plain_board b) answer l) is)
 
 -- nothing is learnt of a marked ticket
-pub record-marked : (b : BoardState) (t : Ticket) (answer : Answer) (l : LiveTicket) → Some l ≡ found_in b.live t → l.marked ≡ true → plain b ≡ after_record (plain b) t answer
-unfolding after_record plain
-record-marked b t answer l found is = sym (ap (with_end (with_record (plain b) answer) (plain b)) (sym found) ∙ ap (λ m. if m then plain b else with_answer (plain b) answer l) is)
+pub record-marked : (b : BoardState) (t : Ticket) (answer : Answer) (l : LiveTicket) → Some l ≡ found_in b.live t → l.marked ≡ true → plain_board b ≡ after_record (plain_board b) t answer
+unfolding after_record plain_board
+record-marked b t answer l found is = sym (ap (with_end (with_record (plain_board b) answer) (plain_board b)) (sym found) ∙ ap (λ m. if m then plain_board b else with_answer (plain_board b) answer l) is)
 
 -- nor of a strange one
-pub record-none : (b : BoardState) (t : Ticket) (answer : Answer) → None ≡ found_in b.live t → plain b ≡ after_record (plain b) t answer
-unfolding after_record plain
-record-none b t answer none = sym (ap (with_end (with_record (plain b) answer) (plain b)) (sym none))
+pub record-none : (b : BoardState) (t : Ticket) (answer : Answer) → None ≡ found_in b.live t → plain_board b ≡ after_record (plain_board b) t answer
+unfolding after_record plain_board
+record-none b t answer none = sym (ap (with_end (with_record (plain_board b) answer) (plain_board b)) (sym none))
 
 -- what the record of a live ticket comes to
 pub recorded-live : (b : BoardState) (t : Ticket) (answer : Answer) (l : LiveTicket) → b.cache.limits ≡ b.problem.rules.limits → Some l ≡ found_in b.live t → l.marked ≡ false
-    → recorded_as (Learning.learnt (known_of b.cache l.ticket.cell) (lesson_in b.cache l.ticket.cell l.ticket.run.cutoff.0 answer)) ≡ recorded_on (plain b) t answer
-unfolding recorded_on learnt_from plain
+    → recorded_as (Learning.learnt (known_of b.cache l.ticket.cell) (lesson_in b.cache l.ticket.cell l.ticket.run.cutoff.0 answer)) ≡ recorded_on (plain_board b) t answer
+unfolding recorded_on learnt_from plain_board
 recorded-live b t answer l limits found is =
     ap (λ bounds. recorded_as (Learning.learnt (known_of b.cache l.ticket.cell) (lesson bounds (known_of b.cache l.ticket.cell) l.ticket.run.cutoff.0 answer))) limits
-    ∙ sym (ap (recorded_by (plain b) answer) (sym found) ∙ ap (λ m. if m then Marked else recorded_as (learnt_from (plain b) answer l)) is)
+    ∙ sym (ap (recorded_by (plain_board b) answer) (sym found) ∙ ap (λ m. if m then Marked else recorded_as (learnt_from (plain_board b) answer l)) is)
 
 -- what the record of a marked ticket comes to
-pub recorded-marked : (b : BoardState) (t : Ticket) (answer : Answer) (l : LiveTicket) → Some l ≡ found_in b.live t → l.marked ≡ true → Marked ≡ recorded_on (plain b) t answer
-unfolding recorded_on learnt_from plain
-recorded-marked b t answer l found is = sym (ap (recorded_by (plain b) answer) (sym found) ∙ ap (λ m. if m then Marked else recorded_as (learnt_from (plain b) answer l)) is)
+pub recorded-marked : (b : BoardState) (t : Ticket) (answer : Answer) (l : LiveTicket) → Some l ≡ found_in b.live t → l.marked ≡ true → Marked ≡ recorded_on (plain_board b) t answer
+unfolding recorded_on learnt_from plain_board
+recorded-marked b t answer l found is = sym (ap (recorded_by (plain_board b) answer) (sym found) ∙ ap (λ m. if m then Marked else recorded_as (learnt_from (plain_board b) answer l)) is)
 
 -- what the record of a strange ticket comes to
-pub recorded-none : (b : BoardState) (t : Ticket) (answer : Answer) → None ≡ found_in b.live t → Stranger ≡ recorded_on (plain b) t answer
-unfolding recorded_on plain
-recorded-none b t answer none = sym (ap (recorded_by (plain b) answer) (sym none))
+pub recorded-none : (b : BoardState) (t : Ticket) (answer : Answer) → None ≡ found_in b.live t → Stranger ≡ recorded_on (plain_board b) t answer
+unfolding recorded_on plain_board
+recorded-none b t answer none = sym (ap (recorded_by (plain_board b) answer) (sym none))
 
 -- what holds of what a search for a live ticket finds
 pub some-then : (o : Option LiveTicket) (P : LiveTicket → Type 0) (l : LiveTicket) → o ≡ Some l → IsSomeAnd o P → P l

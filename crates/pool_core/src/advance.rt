@@ -1,15 +1,15 @@
 //! The step that follows the search.
 ghost use Rattle.std.specs.Prelude.{◌≡◌, ◌-◌, IfOk, OnOk, OnErr};
 ghost use Rattle.ils_face.specs.Replies.{Fits};
-ghost use Rattle.board_steps.specs.Boards.{plain};
+ghost use Rattle.board_steps.specs.Boards.{plain_board};
 ghost use Rattle.board_steps.specs.Numbering.{IsRunnable};
-ghost use Rattle.board_steps.specs.Phases;
-ghost use Rattle.board_steps.specs.Phases.{ask_on, phase_of};
+ghost use Rattle.board_steps.specs.BoardVerdicts;
+ghost use Rattle.board_steps.specs.BoardVerdicts.{ask_on, board_verdict_of};
 ghost use Rattle.board_steps.specs.Steps.{advanced_on, after_advance, with_reply, with_wishes, with_abort};
 
 use crate::board::Board;
 use crate::present_asks::{asked_cell, same_wishes, verdict_by, wishes_after, wishes_now};
-use board_steps::{Advanced, Phase, Problem};
+use board_steps::{Advanced, BoardVerdict, Problem};
 use capping::Verdict;
 use ils_face::{Reply, Search};
 use objective::{Memory, Micros};
@@ -26,26 +26,26 @@ impl<P: Search, S: Spawner> Board<P, S> {
     /// Goes on by what is known: the search is answered where that gives a reply, and the
     /// wishes are made anew. After want of memory the board is as it was.
     pub fn advance(&mut self) -> Result<Advanced, Memory>
-        ensures answer { IfOk result (λ a. a ≡ advanced_on P.shown (plain self.old)) }
-        ensures board { OnOk result (plain self.new ≡ after_advance P.shown (plain self.old)) }
+        ensures answer { IfOk result (λ a. a ≡ advanced_on P.shown (plain_board self.old)) }
+        ensures board { OnOk result (plain_board self.new ≡ after_advance P.shown (plain_board self.old)) }
         ensures err { OnErr result (self.new ≡ self.old) }
     {
-        match self.phase() {
-            Phase::Stopped => Ok(Advanced::Stopped),
-            Phase::Aborted => Ok(Advanced::Aborted),
-            Phase::Open(Verdict::Ended) => Ok(Advanced::Ended),
-            Phase::Open(Verdict::Reply(reply)) => self.answer(reply),
-            Phase::Open(Verdict::Need { place, cutoff }) => self.wish(place, cutoff),
-            Phase::Open(Verdict::Aborted { place }) => self.abort(place),
+        match self.board_verdict() {
+            BoardVerdict::Stopped => Ok(Advanced::Stopped),
+            BoardVerdict::Aborted => Ok(Advanced::Aborted),
+            BoardVerdict::Open(Verdict::Ended) => Ok(Advanced::Ended),
+            BoardVerdict::Open(Verdict::Reply(reply)) => self.answer(reply),
+            BoardVerdict::Open(Verdict::Need { place, cutoff }) => self.wish(place, cutoff),
+            BoardVerdict::Open(Verdict::Aborted { place }) => self.abort(place),
         }
     }
 
     /// Answers the search. The wishes are made first, on a copy.
     fn answer(&mut self, reply: Reply) -> Result<Advanced, Memory>
-        requires stands { phase_of P.shown (plain self.old) ≡ Phase.Open (Verdict.Reply reply) }
-        requires fits { Fits (ask_on P.shown (plain self.old)) reply }
+        requires stands { board_verdict_of P.shown (plain_board self.old) ≡ BoardVerdict.Open (Verdict.Reply reply) }
+        requires fits { Fits (ask_on P.shown (plain_board self.old)) reply }
         ensures answer { IfOk result (λ a. a ≡ Advanced.Moved) }
-        ensures board { OnOk result (plain self.new ≡ with_reply P.shown (plain self.old) reply) }
+        ensures board { OnOk result (plain_board self.new ≡ with_reply P.shown (plain_board self.old) reply) }
         ensures err { OnErr result (self.new ≡ self.old) }
     {
         let alloc = *self.wishes.allocator();
@@ -61,10 +61,10 @@ impl<P: Search, S: Spawner> Board<P, S> {
 
     /// Sees to the wishes where a run is needed: those of an ask that is decided are kept.
     fn wish(&mut self, place: u32, cutoff: Micros) -> Result<Advanced, Memory>
-        requires stands { phase_of P.shown (plain self.old) ≡ Phase.Open (Verdict.Need place cutoff) }
-        requires runnable { IsRunnable self.old.problem.rules (Phases.asked_cell P.shown (plain self.old) place) cutoff.0 }
+        requires stands { board_verdict_of P.shown (plain_board self.old) ≡ BoardVerdict.Open (Verdict.Need place cutoff) }
+        requires runnable { IsRunnable self.old.problem.rules (BoardVerdicts.asked_cell P.shown (plain_board self.old) place) cutoff.0 }
         ensures answer { IfOk result (λ a. a ≡ Advanced.Waits) }
-        ensures board { OnOk result (plain self.new ≡ with_wishes P.shown (plain self.old)) }
+        ensures board { OnOk result (plain_board self.new ≡ with_wishes P.shown (plain_board self.old)) }
         ensures err { OnErr result (self.new ≡ self.old) }
     {
         if self.decided.is_some() {
@@ -75,10 +75,10 @@ impl<P: Search, S: Spawner> Board<P, S> {
 
     /// Makes the wishes anew where a run is needed.
     fn wish_anew(&mut self, place: u32, cutoff: Micros) -> Result<Advanced, Memory>
-        requires stands { phase_of P.shown (plain self.old) ≡ Phase.Open (Verdict.Need place cutoff) }
-        requires runnable { IsRunnable self.old.problem.rules (Phases.asked_cell P.shown (plain self.old) place) cutoff.0 }
+        requires stands { board_verdict_of P.shown (plain_board self.old) ≡ BoardVerdict.Open (Verdict.Need place cutoff) }
+        requires runnable { IsRunnable self.old.problem.rules (BoardVerdicts.asked_cell P.shown (plain_board self.old) place) cutoff.0 }
         ensures answer { IfOk result (λ a. a ≡ Advanced.Waits) }
-        ensures board { OnOk result (plain self.new ≡ with_wishes P.shown (plain self.old)) }
+        ensures board { OnOk result (plain_board self.new ≡ with_wishes P.shown (plain_board self.old)) }
         ensures err { OnErr result (self.new ≡ self.old) }
     {
         let alloc = *self.wishes.allocator();
@@ -97,9 +97,9 @@ impl<P: Search, S: Spawner> Board<P, S> {
 
     /// Ends the search at a run that asked for it.
     fn abort(&mut self, place: u32) -> Result<Advanced, Memory>
-        requires { phase_of P.shown (plain self.old) ≡ Phase.Open (Verdict.Aborted place) }
+        requires { board_verdict_of P.shown (plain_board self.old) ≡ BoardVerdict.Open (Verdict.Aborted place) }
         ensures answer { IfOk result (λ a. a ≡ Advanced.Aborted) }
-        ensures board { OnOk result (plain self.new ≡ with_abort P.shown (plain self.old) place) }
+        ensures board { OnOk result (plain_board self.new ≡ with_abort P.shown (plain_board self.old) place) }
         ensures err { OnErr result (self.new ≡ self.old) }
     {
         let cell = asked_cell(*self.wishes.allocator(), &self.search, place)?;

@@ -2,12 +2,13 @@
 ghost use Rattle.std.specs.Prelude.{◌≡◌, ◌≢◌, [], All, IfOk, IsSome, length};
 ghost use Rattle.std.specs.List.{Contains};
 ghost use Rattle.run_cache.specs.Caches.{known_in};
-ghost use Rattle.board_steps.specs.Boards.{opening, plain};
+ghost use Rattle.board_steps.specs.Boards.{opening, plain_board};
 ghost use Rattle.board_steps.specs.BoardInvariant.{BoardInvariant};
 ghost use Rattle.board_steps.specs.RepliedAsks.{quiet_by};
 ghost use Rattle.board_steps.specs.ShownEntries.{true_by};
-ghost use Rattle.board_steps.specs.Phases;
-ghost use Rattle.board_steps.specs.Phases.{phase_of, ask_on, IfOpen, IfReplies, IfNeeds};
+ghost use Rattle.board_steps.specs.BoardVerdicts;
+ghost use Rattle.capping.specs.Decisions.{IfReply, IfNeed};
+ghost use Rattle.board_steps.specs.BoardVerdicts.{board_verdict_of, ask_on, IfOpen};
 ghost use Rattle.board_steps.specs.Numbering.{IsRunnable};
 ghost use Rattle.ils_face.specs.Replies.{Fits};
 ghost use Rattle.ils_face.specs.Rules.{AreRules};
@@ -17,7 +18,7 @@ ghost use Rattle.pool_core.specs.DecidedAsks.{IsVerdict};
 ghost use Rattle.pool_core.specs.Endings.{IsEnding, ShowsEnding};
 
 use crate::present_asks::verdict_by;
-use board_steps::{Event, Ledger, Phase, Problem, Standing, Ticket};
+use board_steps::{Event, Ledger, BoardVerdict, Problem, Standing, Ticket};
 use capping::Verdict;
 use ils_face::{Ask, Search};
 use objective::Memory;
@@ -84,7 +85,7 @@ fn open_cache(alloc: Global, problem: &Problem) -> Cache
 impl<P: Search, S: Spawner> Board<P, S> {
     /// The opening board of a problem. It has the room for a stop.
     pub fn open(alloc: Global, problem: Problem) -> Result<Board<P, S>, Memory>
-        ensures board { IfOk result (λ b. plain b ≡ opening problem) }
+        ensures board { IfOk result (λ b. plain_board b ≡ opening problem) }
         ensures invariant { IfOk result (BoardInvariant P.shown P.plain S.truth) }
     {
         let search = open_search(alloc, &problem)?;
@@ -182,18 +183,18 @@ impl<P: Search, S: Spawner> Board<P, S> {
     }
 
     /// Where the board stands.
-    pub(crate) fn phase(&self) -> Phase
-        ensures value { result ≡ phase_of P.shown (plain self.now) }
-        ensures fits { IfOpen result (λ v. IfReplies v (Fits (ask_on P.shown (plain self.now)))) }
-        ensures runnable { IfOpen result (λ v. IfNeeds v (λ place cutoff. IsRunnable self.now.problem.rules (Phases.asked_cell P.shown (plain self.now) place) cutoff)) }
+    pub(crate) fn board_verdict(&self) -> BoardVerdict
+        ensures value { result ≡ board_verdict_of P.shown (plain_board self.now) }
+        ensures fits { IfOpen result (λ v. IfReply v (Fits (ask_on P.shown (plain_board self.now)))) }
+        ensures runnable { IfOpen result (λ v. IfNeed v (λ place cutoff. IsRunnable self.now.problem.rules (BoardVerdicts.asked_cell P.shown (plain_board self.now) place) cutoff)) }
     {
         if self.ledger.stopped() {
-            return Phase::Stopped;
+            return BoardVerdict::Stopped;
         }
         if self.aborted.is_some() {
-            return Phase::Aborted;
+            return BoardVerdict::Aborted;
         }
-        Phase::Open(self.verdict())
+        BoardVerdict::Open(self.verdict())
     }
 
     /// What is known makes of the present ask, which is decided once after each thing that was learnt.

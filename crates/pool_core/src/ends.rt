@@ -4,7 +4,7 @@ ghost use Rattle.std.specs.Option.{is_some};
 ghost use Rattle.objective.specs.Costs.{IsWithin, seen};
 ghost use Rattle.objective.specs.declared.Outcome.{Outcome};
 ghost use Rattle.wrapper_lines.specs.declared.runs.Key.{Key};
-ghost use Rattle.board_steps.specs.Boards.{plain};
+ghost use Rattle.board_steps.specs.Boards.{plain_board};
 ghost use Rattle.board_steps.specs.Steps;
 ghost use Rattle.board_steps.specs.Steps.{after_killed, after_lost, after_record, recorded_on};
 ghost use Rattle.board_steps.specs.Tickets.{found_in, standing_of};
@@ -34,8 +34,8 @@ impl<P: Search, S: Spawner> Board<P, S> {
     pub fn record(&mut self, ticket: &Ticket, answer: Answer) -> Recorded
         requires within { IsWithin answer ticket.now.run.cutoff.0 }
         requires told { (outcome : Key → Outcome) → S.truth ≡ Some outcome → answer ≡ seen (outcome ticket.now.run.key) ticket.now.run.cutoff.0 }
-        ensures answer { result ≡ recorded_on (plain self.old) ticket.now answer }
-        ensures board { plain self.new ≡ after_record (plain self.old) ticket.now answer }
+        ensures answer { result ≡ recorded_on (plain_board self.old) ticket.now answer }
+        ensures board { plain_board self.new ≡ after_record (plain_board self.old) ticket.now answer }
     {
         match self.ledger.found(ticket) {
             None => Recorded::Stranger,
@@ -58,7 +58,7 @@ impl<P: Search, S: Spawner> Board<P, S> {
     /// made ahead again. Takes no memory.
     pub fn lost(&mut self, ticket: &Ticket) -> bool
         ensures answer { result ≡ is_known (found_in self.old.live ticket.now) }
-        ensures board { plain self.new ≡ after_lost (plain self.old) ticket.now }
+        ensures board { plain_board self.new ≡ after_lost (plain_board self.old) ticket.now }
     {
         match self.ledger.found(ticket) {
             None => false,
@@ -74,7 +74,7 @@ impl<P: Search, S: Spawner> Board<P, S> {
     /// Takes no memory.
     pub fn killed(&mut self, ticket: &Ticket) -> bool
         ensures answer { result ≡ is_marked (found_in self.old.live ticket.now) }
-        ensures board { plain self.new ≡ after_killed (plain self.old) ticket.now }
+        ensures board { plain_board self.new ≡ after_killed (plain_board self.old) ticket.now }
     {
         match self.ledger.found(ticket) {
             None => false,

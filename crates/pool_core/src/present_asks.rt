@@ -6,7 +6,8 @@ ghost use Rattle.run_cache.specs.Caches.{known_in};
 ghost use Rattle.capping.specs.Verdicts.{verdict_of};
 ghost use Rattle.predictor.specs.Wishes.{wishes_of};
 ghost use Rattle.board_steps.specs.Numbering.{IsRunnable};
-ghost use Rattle.board_steps.specs.Phases.{config_of, IfReplies, IfNeeds};
+ghost use Rattle.capping.specs.Decisions.{IfReply, IfNeed};
+ghost use Rattle.board_steps.specs.BoardVerdicts.{config_of};
 ghost use Rattle.board_steps.specs.Steps.{same_wish};
 
 use capping::{Verdict, decide};
@@ -21,8 +22,8 @@ use std::alloc::Global;
 pub(crate) fn verdict_by<P: Search>(search: &P, cache: &Cache) -> Verdict
     requires { cache.now.limits ≡ (P.rules_of search.now).limits }
     ensures value { result ≡ verdict_of cache.now.limits (known_in cache.now) (P.shown (P.rules_of search.now) (P.replies_of search.now)).ask }
-    ensures fits { IfReplies result (Fits (P.shown (P.rules_of search.now) (P.replies_of search.now)).ask) }
-    ensures runnable { IfNeeds result (λ place cutoff. IsRunnable (P.rules_of search.now) (record { config = config_of (P.shown (P.rules_of search.now) (P.replies_of search.now)).ask; place = place }) cutoff) }
+    ensures fits { IfReply result (Fits (P.shown (P.rules_of search.now) (P.replies_of search.now)).ask) }
+    ensures runnable { IfNeed result (λ place cutoff. IsRunnable (P.rules_of search.now) (record { config = config_of (P.shown (P.rules_of search.now) (P.replies_of search.now)).ask; place = place }) cutoff) }
 {
     decide(cache, search.ask())
 }

@@ -2,16 +2,16 @@
 ghost use Rattle.std.specs.Prelude.{◌≡◌, ◌≤◌, false, IfOk, OnOk, OnErr, IfSome, length};
 ghost use Rattle.std.specs.List.{find, position_or_len};
 ghost use Rattle.objective.specs.Limits.{max_runs};
-ghost use Rattle.board_steps.specs.Boards.{plain};
+ghost use Rattle.board_steps.specs.Boards.{plain_board};
 ghost use Rattle.board_steps.specs.Numbering.{IsRunnable};
-ghost use Rattle.board_steps.specs.Phases;
-ghost use Rattle.board_steps.specs.Phases.{phase_of};
+ghost use Rattle.board_steps.specs.BoardVerdicts;
+ghost use Rattle.board_steps.specs.BoardVerdicts.{board_verdict_of};
 ghost use Rattle.board_steps.specs.Steps.{after_take, is_free, taken_on, ticket_for};
 ghost use Rattle.board_steps.specs.Tickets;
 
 use crate::board::Board;
 use crate::present_asks::asked_cell;
-use board_steps::{Kind, Phase, Taken, Ticket, has_cell, has_ticket};
+use board_steps::{Kind, BoardVerdict, Taken, Ticket, has_cell, has_ticket};
 use capping::Verdict;
 use ils_face::Search;
 use objective::{Memory, Micros};
@@ -24,27 +24,27 @@ impl<P: Search, S: Spawner> Board<P, S> {
     /// Gives a ticket: for the needed run, or where that is being made for one that may be needed
     /// soon. After want of memory no ticket was given; the cache may have a further place.
     pub fn take(&mut self) -> Result<Taken, Memory>
-        ensures answer { IfOk result (λ t. t ≡ taken_on P.shown (plain self.old)) }
-        ensures board { OnOk result (plain self.new ≡ after_take P.shown (plain self.old)) }
-        ensures err { OnErr result (plain self.new ≡ plain self.old) }
+        ensures answer { IfOk result (λ t. t ≡ taken_on P.shown (plain_board self.old)) }
+        ensures board { OnOk result (plain_board self.new ≡ after_take P.shown (plain_board self.old)) }
+        ensures err { OnErr result (plain_board self.new ≡ plain_board self.old) }
     {
-        match self.phase() {
-            Phase::Stopped => Ok(Taken::Stopped),
-            Phase::Aborted => Ok(Taken::Ended),
-            Phase::Open(Verdict::Ended) => Ok(Taken::Ended),
-            Phase::Open(Verdict::Reply(_)) => Ok(Taken::Decided),
-            Phase::Open(Verdict::Aborted { .. }) => Ok(Taken::Decided),
-            Phase::Open(Verdict::Need { place, cutoff }) => self.take_needed(place, cutoff),
+        match self.board_verdict() {
+            BoardVerdict::Stopped => Ok(Taken::Stopped),
+            BoardVerdict::Aborted => Ok(Taken::Ended),
+            BoardVerdict::Open(Verdict::Ended) => Ok(Taken::Ended),
+            BoardVerdict::Open(Verdict::Reply(_)) => Ok(Taken::Decided),
+            BoardVerdict::Open(Verdict::Aborted { .. }) => Ok(Taken::Decided),
+            BoardVerdict::Open(Verdict::Need { place, cutoff }) => self.take_needed(place, cutoff),
         }
     }
 
     /// Gives a ticket where a run is needed.
     fn take_needed(&mut self, place: u32, cutoff: Micros) -> Result<Taken, Memory>
-        requires stands { phase_of P.shown (plain self.old) ≡ Phase.Open (Verdict.Need place cutoff) }
-        requires runnable { IsRunnable self.old.problem.rules (Phases.asked_cell P.shown (plain self.old) place) cutoff.0 }
-        ensures answer { IfOk result (λ t. t ≡ taken_on P.shown (plain self.old)) }
-        ensures board { OnOk result (plain self.new ≡ after_take P.shown (plain self.old)) }
-        ensures err { OnErr result (plain self.new ≡ plain self.old) }
+        requires stands { board_verdict_of P.shown (plain_board self.old) ≡ BoardVerdict.Open (Verdict.Need place cutoff) }
+        requires runnable { IsRunnable self.old.problem.rules (BoardVerdicts.asked_cell P.shown (plain_board self.old) place) cutoff.0 }
+        ensures answer { IfOk result (λ t. t ≡ taken_on P.shown (plain_board self.old)) }
+        ensures board { OnOk result (plain_board self.new ≡ after_take P.shown (plain_board self.old)) }
+        ensures err { OnErr result (plain_board self.new ≡ plain_board self.old) }
     {
         let needed = self.needed_cell(place)?;
         if !self.has_ticket(&needed) {
@@ -58,7 +58,7 @@ impl<P: Search, S: Spawner> Board<P, S> {
 
     /// The cell of the present ask at a place.
     fn needed_cell(&self, place: u32) -> Result<Cell, Memory>
-        ensures { IfOk result (λ c. c ≡ Phases.asked_cell P.shown (plain self.now) place) }
+        ensures { IfOk result (λ c. c ≡ BoardVerdicts.asked_cell P.shown (plain_board self.now) place) }
     {
         asked_cell(*self.wishes.allocator(), &self.search, place)
     }
@@ -71,19 +71,19 @@ impl<P: Search, S: Spawner> Board<P, S> {
     }
 
     /// Whether a seat may run ahead for a wish, beside the needed cell.
-    #[tactic(auto, unfolding(board_steps::specs::Steps::is_free, board_steps::specs::Boards::plain))]
+    #[tactic(auto, unfolding(board_steps::specs::Steps::is_free, board_steps::specs::Boards::plain_board))]
     fn is_free(&self, needed: &Cell, wish: &Wish) -> bool
-        ensures { result ≡ is_free (plain self.now) needed.now wish.now }
+        ensures { result ≡ is_free (plain_board self.now) needed.now wish.now }
     {
         !has_ticket(self.ledger.live(), &wish.cell)
-            && !has_cell(self.ledger.shunned(), &wish.cell)
+            && !has_cell(self.ledger.lost_ahead(), &wish.cell)
             && *needed != wish.cell
             && !self.cache.known(&wish.cell).is_settled(wish.cutoff)
     }
 
     /// The place of the first of these wishes that a seat may run ahead for, or how many they are.
     fn first_free(&self, wishes: &[Wish], needed: &Cell) -> usize
-        ensures value { result ≡ position_or_len (is_free (plain self.now) needed.now) wishes.now }
+        ensures value { result ≡ position_or_len (is_free (plain_board self.now) needed.now) wishes.now }
         ensures within { result ≤ length wishes.now }
     {
         for i in 0..wishes.len() {
@@ -96,7 +96,7 @@ impl<P: Search, S: Spawner> Board<P, S> {
 
     /// The first wish that a seat may run ahead for.
     fn free_wish(&self, needed: &Cell) -> Result<Option<Wish>, Memory>
-        ensures value { IfOk result (λ w. w ≡ find (is_free (plain self.now) needed.now) self.now.wishes) }
+        ensures value { IfOk result (λ w. w ≡ find (is_free (plain_board self.now) needed.now) self.now.wishes) }
         ensures runnable { IfOk result (λ w. IfSome w (λ w. IsRunnable self.now.problem.rules w.cell w.cutoff.0)) }
         ensures free { IfOk result (λ w. IfSome w (λ w. Tickets.has_ticket self.now.live w.cell ≡ false)) }
     {
@@ -109,10 +109,10 @@ impl<P: Search, S: Spawner> Board<P, S> {
     }
 
     /// The ticket for a cell under a cutoff.
-    #[tactic(auto, unfolding(board_steps::specs::Steps::ticket_for, board_steps::specs::Boards::plain))]
+    #[tactic(auto, unfolding(board_steps::specs::Steps::ticket_for, board_steps::specs::Boards::plain_board))]
     fn ticket_for(&self, kind: Kind, cell: Cell, cutoff: Micros) -> Result<Ticket, Memory>
         requires { IsRunnable self.now.problem.rules cell cutoff.0 }
-        ensures value { IfOk result (λ t. t ≡ ticket_for (plain self.now) kind cell cutoff.0) }
+        ensures value { IfOk result (λ t. t ≡ ticket_for (plain_board self.now) kind cell cutoff.0) }
         ensures few { self.now.problem.rules.max_runs ≤ max_runs }
     {
         let _ = &self.problem.rules.max_runs; // its type keeps it in range
@@ -128,13 +128,13 @@ impl<P: Search, S: Spawner> Board<P, S> {
 
     /// Gives the ticket for a cell under a cutoff, with the places that its end needs.
     fn give(&mut self, kind: Kind, cell: Cell, cutoff: Micros) -> Result<Taken, Memory>
-        requires offered { taken_on P.shown (plain self.old) ≡ Taken.Ticket (ticket_for (plain self.old) kind cell cutoff.0) }
+        requires offered { taken_on P.shown (plain_board self.old) ≡ Taken.Ticket (ticket_for (plain_board self.old) kind cell cutoff.0) }
         requires running { self.old.stopped ≡ false }
         requires alone { Tickets.has_ticket self.old.live cell ≡ false }
         requires runnable { IsRunnable self.old.problem.rules cell cutoff.0 }
-        ensures answer { IfOk result (λ t. t ≡ taken_on P.shown (plain self.old)) }
-        ensures board { OnOk result (plain self.new ≡ after_take P.shown (plain self.old)) }
-        ensures err { OnErr result (plain self.new ≡ plain self.old) }
+        ensures answer { IfOk result (λ t. t ≡ taken_on P.shown (plain_board self.old)) }
+        ensures board { OnOk result (plain_board self.new ≡ after_take P.shown (plain_board self.old)) }
+        ensures err { OnErr result (plain_board self.new ≡ plain_board self.old) }
     {
         let ticket = self.ticket_for(kind, cell, cutoff)?;
         let kept = ticket.copy()?;

@@ -8,7 +8,7 @@ use Rattle.outside.specs.declared.faults.Fault.TheVariants as fault
 use Rattle.ils_face.specs.declared.asks.Reply.{Reply}
 use Rattle.ils_face.specs.Rules.{Rules}
 use Rattle.ils_face.specs.Views.{View}
-use Rattle.board_steps.specs.Boards.{BoardState, PlainBoard, plain}
+use Rattle.board_steps.specs.Boards.{BoardState, PlainBoard, plain_board}
 use Rattle.board_steps.specs.declared.tickets.Ticket.{Ticket}
 use Rattle.board_steps.specs.Numbering.{tickets_of}
 use Rattle.board_steps.specs.Steps.{after_lost, after_stop}
@@ -25,12 +25,12 @@ use Rattle.pool_run.proofs.StartedRuns.{some-then, kept-by, since}
 use Rattle.pool_run.proofs.TurnSteps.{search-given_up, keeps-stop, none-live, stop-stops}
 
 -- a board's fields, as plain data
-live-plain : (x : BoardState) → x.live ≡ (plain x).live
-unfolding plain
+live-plain : (x : BoardState) → x.live ≡ (plain_board x).live
+unfolding plain_board
 live-plain x = refl
 
-stopped-plain : (x : BoardState) → x.stopped ≡ (plain x).stopped
-unfolding plain
+stopped-plain : (x : BoardState) → x.stopped ≡ (plain_board x).stopped
+unfolding plain_board
 stopped-plain x = refl
 
 -- no fault is kept
@@ -56,13 +56,13 @@ left-none driven.Memory seat no_fault = omega arith
 module _ (shown : Rules → List Reply → View) (program : Program) (board : BoardState) (seat : SeatState) where
   -- the answer of the ticket was recorded
   pub underway-on : (b c : BoardState) (s s' : SeatState) (t : Ticket) (answer : Answer) → HasTaken shown program board b seat s t
-      → s' ≡ seat_after (Ok answer) s s'.told → IsSomeAnd (last_of s.tickets) (RanTicket program (Ok answer) (plain b) (plain c) s.told s'.told)
+      → s' ≡ seat_after (Ok answer) s s'.told → IsSomeAnd (last_of s.tickets) (RanTicket program (Ok answer) (plain_board b) (plain_board c) s.told s'.told)
       → IsTrue s'.told.idle → s.told.faults ≤ s'.told.faults → IsUnderWay program board c seat s'
   underway-on b c s s' t answer has kept runs idle counts =
-      let ran = some-then (last_of s.tickets) (RanTicket program (Ok answer) (plain b) (plain c) s.told s'.told) t has.last runs in
-      let made = made-answer program (plain board) seat.told s.told seat.tickets s.tickets (plain b) t answer s'.told has.live has.taken ran.started has.made in
-      let P : PlainBoard → Type 0 = λ x. HasMade program [] (plain board) x seat.told s'.told seat.tickets s.tickets in
-      let Q : List Ticket → Type 0 = λ ts. HasMade program [] (plain board) (plain c) seat.told s'.told seat.tickets ts in
+      let ran = some-then (last_of s.tickets) (RanTicket program (Ok answer) (plain_board b) (plain_board c) s.told s'.told) t has.last runs in
+      let made = made-answer program (plain_board board) seat.told s.told seat.tickets s.tickets (plain_board b) t answer s'.told has.live has.taken ran.started has.made in
+      let P : PlainBoard → Type 0 = λ x. HasMade program [] (plain_board board) x seat.told s'.told seat.tickets s.tickets in
+      let Q : List Ticket → Type 0 = λ ts. HasMade program [] (plain_board board) (plain_board c) seat.told s'.told seat.tickets ts in
       let work : IsAtWork program seat s' = record {
         worked = has.worked s' (ap (λ x. x.tickets) kept) ran.may;
         sound = ap (λ x. x.failed) kept ∙ has.sound;
@@ -71,19 +71,19 @@ module _ (shown : Rules → List Reply → View) (program : Program) (board : Bo
       } in
       record {
         work = work;
-        free = live-plain c ∙ ap (λ x. x.live) ran.after ∙ live-answered (plain b) t answer has.live;
+        free = live-plain c ∙ ap (λ x. x.live) ran.after ∙ live-answered (plain_board b) t answer has.live;
         going = stopped-plain c ∙ ap (λ x. x.stopped) ran.after
-            ∙ stopped-answered (plain b) t answer has.live ∙ has.going;
+            ∙ stopped-answered (plain_board b) t answer has.live ∙ has.going;
         made = subst Q (sym (ap (λ x. x.tickets) kept)) (subst P (sym ran.after) made);
       }
 
   -- no ticket is left: no run is needed any more, or there was no memory for a turn
   drove-still : (result : Driven) (b0 b : BoardState) (s0 s : SeatState) (short : Bool) → (result ≡ driven.Fault → ⊥) → (result ≡ driven.Memory → short ≡ true)
       → has_ended result ≡ is_over shown b → (has_ended result ≡ false → b.stopped ≡ true) → IsUnderWay program board b0 seat s0
-      → KeepsTickets (plain b0) (plain b) → s ≡ record s0 { short = short } → DroveTo shown program result board b seat s
+      → KeepsTickets (plain_board b0) (plain_board b) → s ≡ record s0 { short = short } → DroveTo shown program result board b seat s
   drove-still result b0 b s0 s short no_fault memory over stopped way keeps same =
-      let made = made-still program (plain board) seat.told s0.told seat.tickets s0.tickets [] (plain b0) (plain b) keeps.added way.made in
-      let P : SeatState → Type 0 = λ x. HasMade program [] (plain board) (plain b) seat.told x.told seat.tickets x.tickets in
+      let made = made-still program (plain_board board) seat.told s0.told seat.tickets s0.tickets [] (plain_board b0) (plain_board b) keeps.added way.made in
+      let P : SeatState → Type 0 = λ x. HasMade program [] (plain_board board) (plain_board b) seat.told x.told seat.tickets x.tickets in
       let W : SeatState → Type 0 = λ x. HasWorked program seat x in
       let faults = ap (λ x. x.told.faults) same in
       record {
@@ -97,61 +97,61 @@ module _ (shown : Rules → List Reply → View) (program : Program) (board : Bo
         worked = subst W (sym same) (record { worked = way.work.worked.worked; tickets = way.work.worked.tickets; started = way.work.worked.started });
         over = over;
         stopped = stopped;
-        free = live-plain b ∙ none-live (plain b).live (keeps.live ∙ ap tickets_of (sym (live-plain b0) ∙ way.free));
+        free = live-plain b ∙ none-live (plain_board b).live (keeps.live ∙ ap tickets_of (sym (live-plain b0) ∙ way.free));
         fault = no-fault s (IsFault seat.told s.told) (ap (λ x. x.failed) same ∙ way.work.sound);
         kept = kept-none result s no_fault (ap (λ x. x.failed) same ∙ way.work.sound);
         short = λ e. ap (λ x. x.short) same ∙ memory e;
       }
 
   -- no run is needed any more
-  pub drove-ended : (b0 b : BoardState) (s0 s : SeatState) → IsUnderWay program board b0 seat s0 → CameToEnd shown (plain b0) (plain b) s0 s
+  pub drove-ended : (b0 b : BoardState) (s0 s : SeatState) → IsUnderWay program board b0 seat s0 → CameToEnd shown (plain_board b0) (plain_board b) s0 s
       → DroveTo shown program driven.Ended board b seat s
   drove-ended b0 b s0 s way came =
       let going = came.keeps.going ∙ sym (stopped-plain b0) ∙ way.going in
-      let over = sym (sym (over-plain shown b) ∙ done-over shown (plain b) came.done going) in
+      let over = sym (sym (over-plain shown b) ∙ done-over shown (plain_board b) came.done going) in
       drove-still driven.Ended b0 b s0 s s0.short (λ e. absurd (cc)) (λ e. absurd (cc)) over (λ e. absurd (cc)) way came.keeps.keeps came.same
 
   -- there was no memory for a turn, at the end of the search or before
   pub drove-short : (result : Driven) (b0 b : BoardState) (s0 s : SeatState) → (result ≡ driven.Fault → ⊥) → has_ended result ≡ is_over shown b
-      → IsUnderWay program board b0 seat s0 → RanShort shown (plain b0) (plain b) s0 s → DroveTo shown program result board b seat s
+      → IsUnderWay program board b0 seat s0 → RanShort shown (plain_board b0) (plain_board b) s0 s → DroveTo shown program result board b seat s
   drove-short result b0 b s0 s no_fault over way ran =
       drove-still result b0 b s0 s true no_fault (λ e. refl) over (λ e. stopped-plain b ∙ ran.stopped) way ran.keeps ran.noted
 
   -- a ticket was given up
   record HasLost (c : BoardState) (s : SeatState) (t : Ticket) : Type 0 where
-    made : HasMade program (t ∷ []) (plain board) (plain c) seat.told s.told seat.tickets s.tickets
+    made : HasMade program (t ∷ []) (plain_board board) (plain_board c) seat.told s.told seat.tickets s.tickets
     over : false ≡ is_over shown c
     stopped : c.stopped ≡ true
     free : c.live ≡ []
 
   has-lost : (b c : BoardState) (s : SeatState) (t : Ticket) → HasTaken shown program board b seat s t
-      → plain c ≡ stopped_for t.kind (after_lost (plain b) t) → HasLost c s t
+      → plain_board c ≡ stopped_for t.kind (after_lost (plain_board b) t) → HasLost c s t
   has-lost b c s t has after =
-      let lost = after_lost (plain b) t in
-      let keeps = search-given_up (plain b) t in
-      let P : PlainBoard → Type 0 = λ x. HasMade program (t ∷ []) (plain board) x seat.told s.told seat.tickets s.tickets in
+      let lost = after_lost (plain_board b) t in
+      let keeps = search-given_up (plain_board b) t in
+      let P : PlainBoard → Type 0 = λ x. HasMade program (t ∷ []) (plain_board board) x seat.told s.told seat.tickets s.tickets in
       record {
         made = subst P (sym after)
-            (made-still program (plain board) seat.told s.told seat.tickets s.tickets (t ∷ []) (plain b) (stopped_for t.kind lost) keeps.added has.made);
+            (made-still program (plain_board board) seat.told s.told seat.tickets s.tickets (t ∷ []) (plain_board b) (stopped_for t.kind lost) keeps.added has.made);
         over = sym (sym (over-plain shown c) ∙ ap (λ x. over_by shown x.problem x.replies x.aborted) after
-            ∙ over-same shown (plain b) (stopped_for t.kind lost) keeps ∙ over-plain shown b ∙ has.more);
+            ∙ over-same shown (plain_board b) (stopped_for t.kind lost) keeps ∙ over-plain shown b ∙ has.more);
         stopped = stopped-plain c ∙ ap (λ x. x.stopped) after ∙ ap (λ kind. (stopped_for kind lost).stopped) has.asked ∙ stop-stops lost;
         free = live-plain c ∙ ap (λ x. x.live) after ∙ ap (λ kind. (stopped_for kind lost).live) has.asked
-            ∙ none-live (after_stop lost).live ((keeps-stop lost).live ∙ ap tickets_of (live-lost (plain b) t has.live));
+            ∙ none-live (after_stop lost).live ((keeps-stop lost).live ∙ ap tickets_of (live-lost (plain_board b) t has.live));
       }
 
   -- so the drive is at its end
   pub drove-lost : (b c : BoardState) (s s' : SeatState) (t : Ticket) (f : Fault) → HasTaken shown program board b seat s t
-      → s' ≡ seat_after (Err f) s s'.told → IsSomeAnd (last_of s.tickets) (RanTicket program (Err f) (plain b) (plain c) s.told s'.told)
+      → s' ≡ seat_after (Err f) s s'.told → IsSomeAnd (last_of s.tickets) (RanTicket program (Err f) (plain_board b) (plain_board c) s.told s'.told)
       → IsTrue s'.told.idle → s.told.faults ≤ s'.told.faults → DroveTo shown program (ended_by f) board c seat s'
   drove-lost b c s s' t fault.Failed has kept runs idle counts =
-      let ran = some-then (last_of s.tickets) (RanTicket program (Err fault.Failed) (plain b) (plain c) s.told s'.told) t has.last runs in
+      let ran = some-then (last_of s.tickets) (RanTicket program (Err fault.Failed) (plain_board b) (plain_board c) s.told s'.told) t has.last runs in
       let lost = has-lost b c s t has ran.after in
       let list : s'.tickets ≡ s.tickets = ap (λ x. x.tickets) kept in
       let last : last_of s'.tickets ≡ Some t = ap last_of list ∙ has.last in
       let is : fault_of s' ≡ Some t = ap (λ f. if f then last_of s'.tickets else None) (ap (λ x. x.failed) kept) ∙ last in
       let here : IsFault s.told s'.told t = record { asked = has.asked; failed = ran.failed refl; rose = ran.rose refl } in
-      let P : List Ticket → Type 0 = λ ts. HasMade program (t ∷ []) (plain board) (plain c) seat.told s.told seat.tickets ts in
+      let P : List Ticket → Type 0 = λ ts. HasMade program (t ∷ []) (plain_board board) (plain_board c) seat.told s.told seat.tickets ts in
       let L : Option Ticket → Type 0 = λ o. IsSomeAnd o (λ u. t ∷ [] ≡ u ∷ []) in
       let S : Option Ticket → Type 0 = λ o. IsSome o in
       record {
@@ -171,9 +171,9 @@ module _ (shown : Rules → List Reply → View) (program : Program) (board : Bo
         short = λ e. absurd (cc);
       }
   drove-lost b c s s' t fault.Memory has kept runs idle counts =
-      let ran = some-then (last_of s.tickets) (RanTicket program (Err fault.Memory) (plain b) (plain c) s.told s'.told) t has.last runs in
+      let ran = some-then (last_of s.tickets) (RanTicket program (Err fault.Memory) (plain_board b) (plain_board c) s.told s'.told) t has.last runs in
       let lost = has-lost b c s t has ran.after in
-      let P : List Ticket → Type 0 = λ ts. HasMade program (t ∷ []) (plain board) (plain c) seat.told s.told seat.tickets ts in
+      let P : List Ticket → Type 0 = λ ts. HasMade program (t ∷ []) (plain_board board) (plain_board c) seat.told s.told seat.tickets ts in
       record {
         idle = idle;
         counts = omega (arith, has.counts, counts);

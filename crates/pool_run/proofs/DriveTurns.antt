@@ -21,14 +21,14 @@ use Rattle.capping.specs.Decisions.{OnEnded}
 use Rattle.capping.specs.Verdicts.{verdict_of}
 use Rattle.capping.proofs.Promises.{ended}
 use Rattle.board_steps.specs.BoardInvariant.{BoardInvariant}
-use Rattle.board_steps.specs.Boards.{BoardState, PlainBoard, plain}
-use Rattle.board_steps.specs.declared.answers.Phase.TheVariants as phase
+use Rattle.board_steps.specs.Boards.{BoardState, PlainBoard, plain_board}
+use Rattle.board_steps.specs.declared.answers.BoardVerdict.TheVariants as board_verdict
 use Rattle.board_steps.specs.declared.answers.Taken.TheVariants as taken
 use Rattle.board_steps.specs.declared.tickets.Kind.TheVariants.{Asked}
 use Rattle.board_steps.specs.declared.tickets.Ticket.{Ticket}
 use Rattle.board_steps.specs.JournalRuns.{AreTaken}
 use Rattle.board_steps.specs.Numbering.{IsTicket, tickets_of}
-use Rattle.board_steps.specs.Phases.{ask_on, asked_cell, phase_by, phase_of, verdict_on}
+use Rattle.board_steps.specs.BoardVerdicts.{ask_on, asked_cell, board_verdict_by, board_verdict_of, verdict_on}
 use Rattle.board_steps.specs.Problem.{Problem}
 use Rattle.board_steps.specs.Steps.{ticket_for, taken_on, with_ticket}
 use Rattle.board_steps.specs.Tickets.{has_ticket}
@@ -74,18 +74,18 @@ module _ (shown : Rules → List Reply → View) where
     going : b.stopped ≡ false
     none : is_some b.aborted ≡ false
 
-  open-parts : (b : PlainBoard) (v : Verdict) → phase_of shown b ≡ phase.Open v → IsOpen b
-  unfolding phase_of
+  open-parts : (b : PlainBoard) (v : Verdict) → board_verdict_of shown b ≡ board_verdict.Open v → IsOpen b
+  unfolding board_verdict_of
   open-parts b v stands = by b.stopped b.aborted refl refl stands
     where
       by : (stopped : Bool) (aborted : Option Cell) → b.stopped ≡ stopped → b.aborted ≡ aborted
-          → (if stopped then phase.Stopped else phase_by shown b aborted) ≡ phase.Open v → IsOpen b
+          → (if stopped then board_verdict.Stopped else board_verdict_by shown b aborted) ≡ board_verdict.Open v → IsOpen b
       by true aborted s a e = absurd (cc)
       by false (Some cell) s a e = absurd (cc)
       by false None s a e = record { going = s; none = ap is_some a }
 
   -- a board that needs a run isn't at its end
-  needs-more : (b : PlainBoard) (place : ℕ) (cutoff : Micros) → phase_of shown b ≡ phase.Open (verdict.Need place cutoff)
+  needs-more : (b : PlainBoard) (place : ℕ) (cutoff : Micros) → board_verdict_of shown b ≡ board_verdict.Open (verdict.Need place cutoff)
       → over_by shown b.problem b.replies b.aborted ≡ false
   needs-more b place cutoff stands =
       let none = (open-parts b (verdict.Need place cutoff) stands).none in
@@ -93,20 +93,20 @@ module _ (shown : Rules → List Reply → View) where
       (λ i. none i || more i)
 
   -- a board that is done and isn't stopped is at its end
-  pub done-over : (b : PlainBoard) → is_done (phase_of shown b) ≡ true → b.stopped ≡ false → over_by shown b.problem b.replies b.aborted ≡ true
-  unfolding phase_of verdict_on
-  done-over b done going = by_abort b.aborted (ap (λ s. is_done (if s then phase.Stopped else phase_by shown b b.aborted)) (sym going) ∙ done)
+  pub done-over : (b : PlainBoard) → is_done (board_verdict_of shown b) ≡ true → b.stopped ≡ false → over_by shown b.problem b.replies b.aborted ≡ true
+  unfolding board_verdict_of verdict_on
+  done-over b done going = by_abort b.aborted (ap (λ s. is_done (if s then board_verdict.Stopped else board_verdict_by shown b b.aborted)) (sym going) ∙ done)
     where
-      by_verdict : (ask : Ask) (v : Verdict) → OnEnded v (ask ≡ End) → is_done (phase.Open v) ≡ true → is_end ask ≡ true
+      by_verdict : (ask : Ask) (v : Verdict) → OnEnded v (ask ≡ End) → is_done (board_verdict.Open v) ≡ true → is_end ask ≡ true
       by_verdict ask (verdict.Reply r) ended e = absurd (let f : false ≡ true = e in cc)
       by_verdict ask (verdict.Need place cutoff) ended e = absurd (let f : false ≡ true = e in cc)
       by_verdict ask (verdict.Aborted place) ended e = absurd (let f : false ≡ true = e in cc)
       by_verdict ask verdict.Ended ended e = ap is_end ended
 
-      by_ask : (ask : Ask) → is_done (phase.Open (verdict_of b.problem.rules.limits b.known ask)) ≡ true → is_end ask ≡ true
+      by_ask : (ask : Ask) → is_done (board_verdict.Open (verdict_of b.problem.rules.limits b.known ask)) ≡ true → is_end ask ≡ true
       by_ask ask e = by_verdict ask (verdict_of b.problem.rules.limits b.known ask) (ended b.problem.rules.limits b.known ask) e
 
-      by_abort : (o : Option Cell) → is_done (phase_by shown b o) ≡ true → (is_some o || is_end (ask_on shown b)) ≡ true
+      by_abort : (o : Option Cell) → is_done (board_verdict_by shown b o) ≡ true → (is_some o || is_end (ask_on shown b)) ≡ true
       by_abort (Some cell) e = refl
       by_abort None e = by_ask (ask_on shown b) e
 
@@ -117,33 +117,33 @@ pub record IsUnderWay (program : Program) (board board' : BoardState) (seat seat
   pub work : IsAtWork program seat seat'
   pub free : board'.live ≡ []
   pub going : board'.stopped ≡ false
-  pub made : HasMade program [] (plain board) (plain board') seat.told seat'.told seat.tickets seat'.tickets
+  pub made : HasMade program [] (plain_board board) (plain_board board') seat.told seat'.told seat.tickets seat'.tickets
 
 -- at the beginning
 pub underway-begin : (program : Program) (board : BoardState) (seat seat' : SeatState) → MayDrive board seat
     → seat' ≡ record seat { failed = false; short = false } → IsUnderWay program board board seat seat'
 underway-begin program board seat seat' may dropped =
-    let P : SeatState → Type 0 = λ s. HasMade program [] (plain board) (plain board) seat.told s.told seat.tickets s.tickets in
+    let P : SeatState → Type 0 = λ s. HasMade program [] (plain_board board) (plain_board board) seat.told s.told seat.tickets s.tickets in
     record {
       work = begins program seat seat' may.idle dropped;
       free = may.free;
       going = may.going;
-      made = subst P (sym dropped) (made-none program (plain board) seat.told seat.tickets);
+      made = subst P (sym dropped) (made-none program (plain_board board) seat.told seat.tickets);
     }
 
 -- a turn isn't idle then
 pub idle-never : (shown : Rules → List Reply → View) (program : Program) (board b : BoardState) (b' : PlainBoard) (seat s s' : SeatState)
-    → IsUnderWay program board b seat s → StayedIdle shown (plain b) b' s s' → ⊥
-unfolding plain
+    → IsUnderWay program board b seat s → StayedIdle shown (plain_board b) b' s s' → ⊥
+unfolding plain_board
 idle-never shown program board b b' seat s s' way stayed = stayed.busy (ap tickets_of way.free)
 
 -- a ticket that was taken for the needed run, which the seat has as its last one
 pub record HasTaken (shown : Rules → List Reply → View) (program : Program) (board b : BoardState) (seat s : SeatState) (t : Ticket) : Type 0 where
   pub counts : seat.told.faults ≤ s.told.faults
-  pub made : HasMade program (t ∷ []) (plain board) (plain b) seat.told s.told seat.tickets s.tickets
-  pub taken : AreTaken (plain b)
-  pub live : (plain b).live ≡ alone t
-  pub going : (plain b).stopped ≡ false
+  pub made : HasMade program (t ∷ []) (plain_board board) (plain_board b) seat.told s.told seat.tickets s.tickets
+  pub taken : AreTaken (plain_board b)
+  pub live : (plain_board b).live ≡ alone t
+  pub going : (plain_board b).stopped ≡ false
   pub more : is_over shown b ≡ false
   pub asked : t.kind ≡ Asked
   pub last : last_of s.tickets ≡ Some t
@@ -166,32 +166,32 @@ module _ (shown : Rules → List Reply → View) where
   unfolding ticket_for
   kind-needed b t needed = ap (λ x. x.kind) needed.ticket
 
-  pub over-plain : (b : BoardState) → over_by shown (plain b).problem (plain b).replies (plain b).aborted ≡ is_over shown b
-  unfolding plain
+  pub over-plain : (b : BoardState) → over_by shown (plain_board b).problem (plain_board b).replies (plain_board b).aborted ≡ is_over shown b
+  unfolding plain_board
   over-plain b = refl
 
   -- a seat took a ticket while a drive was under way
   pub taken-so : (procedure : Rules → Table → Run) (truth : Option (Key → Outcome)) (program : Program) (board b0 b : BoardState) (seat s0 s : SeatState)
-      → IsUnderWay program board b0 seat s0 → (took : TookTicket shown (plain b0) (plain b) s0 s) → BoardInvariant shown procedure truth b
+      → IsUnderWay program board b0 seat s0 → (took : TookTicket shown (plain_board b0) (plain_board b) s0 s) → BoardInvariant shown procedure truth b
       → HasTaken shown program board b seat s took.one.ticket
-  unfolding plain
+  unfolding plain_board
   taken-so procedure truth program board b0 b seat s0 s way took inv =
       let t = took.one.ticket in
       let between = took.between in
       let free : between.live ≡ [] = none-live between.live (took.keeps.live ∙ ap tickets_of way.free) in
       let needed = needed-alone between t free took.given in
       let open_there = open-parts shown between (verdict.Need needed.place needed.cutoff) needed.stands in
-      let after : plain b ≡ with_ticket between t = took.after in
+      let after : plain_board b ≡ with_ticket between t = took.after in
       let live : b.live ≡ alone t = ap (λ c. c.live) after ∙ ap (λ ls. ls ++ alone t) free in
       let first : board.problem ≡ b.problem = sym (ap (λ c. c.problem) after ∙ took.keeps.added.problem ∙ way.made.problem) in
       let each : All (IsTicket b.problem b.next) (t ∷ []) = subst (λ ls. All (IsTicket b.problem b.next) (tickets_of ls)) live inv.numbering.numbers.each in
       let ticket : IsTicket b.problem b.next t = All-head (IsTicket b.problem b.next) t [] each in
       let asked : IsAskedTicket b.problem t = record { asked = kind-needed between t needed; key = ticket.key; runnable = ticket.runnable } in
       let asked_first : IsAskedTicket board.problem t = subst (λ p. IsAskedTicket p t) (sym first) asked in
-      let before = made-still program (plain board) seat.told s0.told seat.tickets s0.tickets [] (plain b0) between took.keeps.added way.made in
-      let made = made-ticket program (plain board) seat.told s0.told seat.tickets s0.tickets between t asked_first before in
-      let P : PlainBoard → Type 0 = λ c. HasMade program (t ∷ []) (plain board) c seat.told s0.told seat.tickets (s0.tickets ++ t ∷ []) in
-      let Q : SeatState → Type 0 = λ x. HasMade program (t ∷ []) (plain board) (plain b) seat.told x.told seat.tickets x.tickets in
+      let before = made-still program (plain_board board) seat.told s0.told seat.tickets s0.tickets [] (plain_board b0) between took.keeps.added way.made in
+      let made = made-ticket program (plain_board board) seat.told s0.told seat.tickets s0.tickets between t asked_first before in
+      let P : PlainBoard → Type 0 = λ c. HasMade program (t ∷ []) (plain_board board) c seat.told s0.told seat.tickets (s0.tickets ++ t ∷ []) in
+      let Q : SeatState → Type 0 = λ x. HasMade program (t ∷ []) (plain_board board) (plain_board b) seat.told x.told seat.tickets x.tickets in
       let told : s.told ≡ s0.told = ap (λ x. x.told) took.one.list in
       record {
         counts = omega (arith, way.work.counts, ap (λ x. x.faults) told);

@@ -25,7 +25,7 @@ use Rattle.run_cache.specs.declared.cell.Cell.{Cell}
 use Rattle.run_cache.specs.Runs.{CellRun, IsRising}
 use Rattle.board_steps.specs.AgreeingBoards.{IsShown}
 use Rattle.board_steps.specs.BoardInvariant.{BoardInvariant}
-use Rattle.board_steps.specs.Boards.{BoardState, plain}
+use Rattle.board_steps.specs.Boards.{BoardState, plain_board}
 use Rattle.board_steps.specs.declared.events.Event.{Event}
 use Rattle.board_steps.specs.declared.events.Event.TheVariants.{Take}
 use Rattle.board_steps.specs.declared.tickets.Kind.{Kind}
@@ -114,7 +114,7 @@ module _ (shown : Rules → List Reply → View) (procedure : Rules → Table �
   -- what a drive made is what it is to have made
   pub has-driven : (program : Program) (result : Driven) (board b : BoardState) (seat s : SeatState) → DroveTo shown program result board b seat s
       → BoardInvariant shown procedure truth b → HasDriven procedure truth program result board b seat s
-  unfolding plain
+  unfolding plain_board
   has-driven program result board b seat s drove inv =
       let made = drove.made in
       let tickets = tickets_in made.answered ++ drove.left in
@@ -150,7 +150,7 @@ module _ (shown : Rules → List Reply → View) (procedure : Rules → Table �
 
   pub same-problem : (program : Program) (result : Driven) (board b : BoardState) (seat s : SeatState) → DroveTo shown program result board b seat s
       → b.problem ≡ board.problem
-  unfolding plain
+  unfolding plain_board
   same-problem program result board b seat s drove = drove.made.problem
 
   module _ (follows : (rules : Rules) (T : Table) → AreRules rules → Follows (shown rules) (sums_under rules T) (procedure rules T))

@@ -13,8 +13,8 @@ use Rattle.run_cache.specs.declared.cell.Cell.{Cell}
 use Rattle.board_steps.specs.Boards.{PlainBoard}
 use Rattle.board_steps.specs.declared.answers.Advanced.{Advanced}
 use Rattle.board_steps.specs.declared.answers.Advanced.TheVariants as advanced
-use Rattle.board_steps.specs.declared.answers.Phase.{Phase}
-use Rattle.board_steps.specs.declared.answers.Phase.TheVariants as phase
+use Rattle.board_steps.specs.declared.answers.BoardVerdict.{BoardVerdict}
+use Rattle.board_steps.specs.declared.answers.BoardVerdict.TheVariants as board_verdict
 use Rattle.board_steps.specs.declared.answers.Taken.{Taken}
 use Rattle.board_steps.specs.declared.answers.Taken.TheVariants as taken
 use Rattle.board_steps.specs.declared.events.Event.{Event}
@@ -24,7 +24,7 @@ use Rattle.board_steps.specs.declared.tickets.Kind.TheVariants.{Asked, Ahead}
 use Rattle.board_steps.specs.declared.tickets.LiveTicket.{LiveTicket}
 use Rattle.board_steps.specs.declared.tickets.Ticket.{Ticket}
 use Rattle.board_steps.specs.Numbering.{tickets_of}
-use Rattle.board_steps.specs.Phases.{asked_cell, phase_of, verdict_on, wishes_on}
+use Rattle.board_steps.specs.BoardVerdicts.{asked_cell, board_verdict_of, verdict_on, wishes_on}
 use Rattle.board_steps.specs.Steps.{with_taken, after_take, same_wish, with_reply, with_wishes, with_abort, advanced_by, advanced_to, advanced_on, after_advance, is_unwanted, after_mark, stopped_board, after_stop, with_end, with_loss, after_lost, is_free, taken_ahead, taken_by, taken_on}
 use Rattle.board_steps.specs.Tickets.{mark_event, mark_events, has_ticket, found_in}
 use Rattle.board_steps.proofs.LiveTickets.{tickets-marked, tickets-marked_if}
@@ -148,7 +148,7 @@ marks-fail test none p (l ∷ live) =
     one false number = refl
 
 -- what an advance comes to, and where the board stands after it
-abbrev pub StandsAfter : Advanced → Phase → Type 0
+abbrev pub StandsAfter : Advanced → BoardVerdict → Type 0
 StandsAfter advanced.Moved p = Unit {0}
 StandsAfter advanced.Waits p = (needs_run p ≡ true) × (is_done p ≡ false)
 StandsAfter a p = (needs_run p ≡ false) × (is_done p ≡ true)
@@ -183,9 +183,9 @@ module _ (shown : Rules → List Reply → View) where
   }
 
   -- that leaves where the board stands
-  phase-marked : (b : PlainBoard) → phase_of shown (after_mark shown b) ≡ phase_of shown b
-  unfolding after_mark phase_of verdict_on
-  phase-marked b = refl
+  board_verdict-marked : (b : PlainBoard) → board_verdict_of shown (after_mark shown b) ≡ board_verdict_of shown b
+  unfolding after_mark board_verdict_of verdict_on
+  board_verdict-marked b = refl
 
   -- an event of an advance
   advances : (b c : PlainBoard) → c.journal ≡ b.journal ++ Advance ∷ [] → c.problem ≡ b.problem → c.live ≡ b.live → c.stopped ≡ b.stopped → KeepsGoing b c
@@ -205,50 +205,50 @@ module _ (shown : Rules → List Reply → View) where
       by true = going-none b
       by false = advances b (record b { wishes = wishes_on shown b; journal = b.journal ++ Advance ∷ [] }) refl refl refl refl
 
-  going-by : (b : PlainBoard) (p : Phase) → KeepsGoing b (advanced_by shown b p)
+  going-by : (b : PlainBoard) (p : BoardVerdict) → KeepsGoing b (advanced_by shown b p)
   unfolding with_reply with_abort
-  going-by b (phase.Open (verdict.Reply r)) = advances b (with_reply shown b r) refl refl refl refl
-  going-by b (phase.Open (verdict.Need place cutoff)) = going-wishes b
-  going-by b (phase.Open (verdict.Aborted place)) = advances b (with_abort shown b place) refl refl refl refl
+  going-by b (board_verdict.Open (verdict.Reply r)) = advances b (with_reply shown b r) refl refl refl refl
+  going-by b (board_verdict.Open (verdict.Need place cutoff)) = going-wishes b
+  going-by b (board_verdict.Open (verdict.Aborted place)) = advances b (with_abort shown b place) refl refl refl refl
   going-by b p = going-none b
 
   -- the board advances
   going-advance : (b : PlainBoard) → KeepsGoing b (after_advance shown b)
   unfolding after_advance
-  going-advance b = going-by b (phase_of shown b)
+  going-advance b = going-by b (board_verdict_of shown b)
 
   -- other wishes leave where the board stands
-  phase-wishes : (b : PlainBoard) → phase_of shown (with_wishes shown b) ≡ phase_of shown b
-  unfolding with_wishes phase_of verdict_on
-  phase-wishes b = by (pointwise same_wish b.wishes (wishes_on shown b))
+  board_verdict-wishes : (b : PlainBoard) → board_verdict_of shown (with_wishes shown b) ≡ board_verdict_of shown b
+  unfolding with_wishes board_verdict_of verdict_on
+  board_verdict-wishes b = by (pointwise same_wish b.wishes (wishes_on shown b))
     where
-      by : (same : Bool) → phase_of shown (if same then b else record b { wishes = wishes_on shown b; journal = b.journal ++ Advance ∷ [] }) ≡ phase_of shown b
+      by : (same : Bool) → board_verdict_of shown (if same then b else record b { wishes = wishes_on shown b; journal = b.journal ++ Advance ∷ [] }) ≡ board_verdict_of shown b
       by true = refl
       by false = refl
 
   -- a board with a cell that aborted needs no run any more
-  phase-abort : (b : PlainBoard) (place : ℕ) → (needs_run (phase_of shown (with_abort shown b place)) ≡ false) × (is_done (phase_of shown (with_abort shown b place)) ≡ true)
-  unfolding with_abort phase_of
-  phase-abort b place = by b.stopped
+  board_verdict-abort : (b : PlainBoard) (place : ℕ) → (needs_run (board_verdict_of shown (with_abort shown b place)) ≡ false) × (is_done (board_verdict_of shown (with_abort shown b place)) ≡ true)
+  unfolding with_abort board_verdict_of
+  board_verdict-abort b place = by b.stopped
     where
-      by : (stopped : Bool) → (needs_run (if stopped then phase.Stopped else phase.Aborted) ≡ false) × (is_done (if stopped then phase.Stopped else phase.Aborted) ≡ true)
+      by : (stopped : Bool) → (needs_run (if stopped then board_verdict.Stopped else board_verdict.Aborted) ≡ false) × (is_done (if stopped then board_verdict.Stopped else board_verdict.Aborted) ≡ true)
       by true = (refl, refl)
       by false = (refl, refl)
 
-  stands-by : (b : PlainBoard) (p : Phase) → phase_of shown b ≡ p → StandsAfter (advanced_to p) (phase_of shown (advanced_by shown b p))
-  stands-by b (phase.Open (verdict.Reply r)) is = tt
-  stands-by b (phase.Open (verdict.Need place cutoff)) is =
-      let same = phase-wishes b ∙ is in
+  stands-by : (b : PlainBoard) (p : BoardVerdict) → board_verdict_of shown b ≡ p → StandsAfter (advanced_to p) (board_verdict_of shown (advanced_by shown b p))
+  stands-by b (board_verdict.Open (verdict.Reply r)) is = tt
+  stands-by b (board_verdict.Open (verdict.Need place cutoff)) is =
+      let same = board_verdict-wishes b ∙ is in
       (ap needs_run same, ap is_done same)
-  stands-by b (phase.Open (verdict.Aborted place)) is = phase-abort b place
+  stands-by b (board_verdict.Open (verdict.Aborted place)) is = board_verdict-abort b place
   stands-by b p is = (ap needs_run is, ap is_done is)
 
   -- where the board stands after an advance that came to this
-  stands-after : (b c : PlainBoard) (a : Advanced) → a ≡ advanced_on shown b → c ≡ after_advance shown b → StandsAfter a (phase_of shown c)
+  stands-after : (b c : PlainBoard) (a : Advanced) → a ≡ advanced_on shown b → c ≡ after_advance shown b → StandsAfter a (board_verdict_of shown c)
   unfolding advanced_on after_advance
   stands-after b c a came is =
-      subst (λ x. StandsAfter x (phase_of shown c)) (sym came)
-      (subst (λ d. StandsAfter (advanced_to (phase_of shown b)) (phase_of shown d)) (sym is) (stands-by b (phase_of shown b) refl))
+      subst (λ x. StandsAfter x (board_verdict_of shown c)) (sym came)
+      (subst (λ d. StandsAfter (advanced_to (board_verdict_of shown b)) (board_verdict_of shown d)) (sym is) (stands-by b (board_verdict_of shown b) refl))
 
   -- ---- where a run is needed a take gives a ticket, or a live one runs already
 
@@ -265,15 +265,15 @@ module _ (shown : Rules → List Reply → View) where
           absurd (cc)
       ahead (Some w) = tt
 
-  need-by : (b : PlainBoard) (p : Phase) → needs_run p ≡ true → IsTakeOfNeed b (taken_by shown b p)
+  need-by : (b : PlainBoard) (p : BoardVerdict) → needs_run p ≡ true → IsTakeOfNeed b (taken_by shown b p)
   unfolding has_ticket
-  need-by b (phase.Open (verdict.Need place cutoff)) needs =
+  need-by b (board_verdict.Open (verdict.Need place cutoff)) needs =
       need-beside b (asked_cell shown b place) _ (has_ticket b.live (asked_cell shown b place)) refl
   need-by b p needs = absurd (let e : false ≡ true = needs in cc)
 
-  take-needed : (b : PlainBoard) (r : Taken) → needs_run (phase_of shown b) ≡ true → r ≡ taken_on shown b → IsTakeOfNeed b r
+  take-needed : (b : PlainBoard) (r : Taken) → needs_run (board_verdict_of shown b) ≡ true → r ≡ taken_on shown b → IsTakeOfNeed b r
   unfolding taken_on
-  take-needed b r needs is = subst (IsTakeOfNeed b) (sym is) (need-by b (phase_of shown b) needs)
+  take-needed b r needs is = subst (IsTakeOfNeed b) (sym is) (need-by b (board_verdict_of shown b) needs)
 
   -- ---- the parts of a turn
 
@@ -283,10 +283,10 @@ module _ (shown : Rules → List Reply → View) where
 
   -- the last advance
   pub advanced-so : (a b c : PlainBoard) (x y : Advanced) (needed : Bool) → KeepsGoing a b → x ≡ advanced_on shown b → c ≡ after_advance shown b → x ≡ y
-      → ((p : Phase) → StandsAfter y p → (needs_run p ≡ needed) × (is_done p ≡ not needed)) → AdvancedTo shown needed a c
+      → ((p : BoardVerdict) → StandsAfter y p → (needs_run p ≡ needed) × (is_done p ≡ not needed)) → AdvancedTo shown needed a c
   advanced-so a b c x y needed keeps came is same stands =
-      let P : Advanced → Type 0 = λ z. StandsAfter z (phase_of shown c) in
-      let both = stands (phase_of shown c) (subst P same (stands-after b c x came is)) in
+      let P : Advanced → Type 0 = λ z. StandsAfter z (board_verdict_of shown c) in
+      let both = stands (board_verdict_of shown c) (subst P same (stands-after b c x came is)) in
       record { keeps = going-more a b c keeps is; needs = both.0; done = both.1 }
 
   -- it ended there
@@ -302,7 +302,7 @@ module _ (shown : Rules → List Reply → View) where
   -- marks after the advances
   pub marked-so : (a b c : PlainBoard) (needed : Bool) → AdvancedTo shown needed a b → c ≡ after_mark shown b → AdvancedTo shown needed a c
   marked-so a b c needed to is =
-      let stands : phase_of shown c ≡ phase_of shown b = ap (phase_of shown) is ∙ phase-marked b in
+      let stands : board_verdict_of shown c ≡ board_verdict_of shown b = ap (board_verdict_of shown) is ∙ board_verdict-marked b in
       record {
         keeps = going-then a b c to.keeps (subst (KeepsGoing b) (sym is) (going-mark b));
         needs = ap needs_run stands ∙ to.needs;

@@ -19,7 +19,7 @@ use Rattle.ils_face.specs.Views.{View}
 use Rattle.run_cache.specs.declared.cell.Cell.{Cell}
 use Rattle.run_cache.specs.Runs.{CellRun, IsDue, IsRising}
 use Rattle.board_steps.specs.AgreeingBoards.{IsShown}
-use Rattle.board_steps.specs.Boards.{BoardState, PlainBoard, plain}
+use Rattle.board_steps.specs.Boards.{BoardState, PlainBoard, plain_board}
 use Rattle.board_steps.specs.declared.events.Event.{Event}
 use Rattle.board_steps.specs.declared.events.Event.TheVariants.{Record}
 use Rattle.board_steps.specs.declared.tickets.Kind.TheVariants.{Asked}
@@ -145,7 +145,7 @@ pub record DroveTo (shown : Rules → List Reply → View) (program : Program) (
   pub counts : seat.told.faults ≤ seat'.told.faults
   pub left : List Ticket
   pub told : SpawnerTold  -- after the last run that was answered
-  pub made : HasMade program left (plain board) (plain board') seat.told told seat.tickets seat'.tickets
+  pub made : HasMade program left (plain_board board) (plain_board board') seat.told told seat.tickets seat'.tickets
   pub last : IsLeft result seat' left
   pub now : result ≡ Ended → told ≡ seat'.told
   pub worked : HasWorked program seat seat'

@@ -5,14 +5,14 @@ use Rattle.ils_face.specs.Rules.{Rules}
 use Rattle.ils_face.specs.Views.{View}
 use Rattle.capping.specs.declared.verdicts.Verdict.TheVariants as verdict
 use Rattle.board_steps.specs.Boards.{PlainBoard}
-use Rattle.board_steps.specs.declared.answers.Phase.{Phase}
-use Rattle.board_steps.specs.declared.answers.Phase.TheVariants as phase
+use Rattle.board_steps.specs.declared.answers.BoardVerdict.{BoardVerdict}
+use Rattle.board_steps.specs.declared.answers.BoardVerdict.TheVariants as board_verdict
 use Rattle.board_steps.specs.declared.answers.Taken.TheVariants as taken
 use Rattle.board_steps.specs.declared.events.Event.{Event}
 use Rattle.board_steps.specs.declared.events.Event.TheVariants.{Take, Record}
 use Rattle.board_steps.specs.declared.tickets.Ticket.{Ticket}
 use Rattle.board_steps.specs.Numbering.{tickets_of}
-use Rattle.board_steps.specs.Phases.{phase_of}
+use Rattle.board_steps.specs.BoardVerdicts.{board_verdict_of}
 use Rattle.board_steps.specs.Steps.{taken_on, with_ticket}
 use Rattle.pool_run.specs.Seats.{SeatState}
 use Rattle.pool_run.specs.declared.turns.Turn.{Turn}
@@ -47,15 +47,15 @@ pub record KeepsGoing (before after : PlainBoard) : Type 0 where
   pub going : after.stopped ≡ before.stopped
 
 -- a run of the present ask is needed
-abbrev pub needs_run : Phase → Bool
-needs_run (phase.Open (verdict.Need place cutoff)) = true
+abbrev pub needs_run : BoardVerdict → Bool
+needs_run (board_verdict.Open (verdict.Need place cutoff)) = true
 needs_run p = false
 
 -- no run is needed any more
-abbrev pub is_done : Phase → Bool
-is_done phase.Stopped = true
-is_done phase.Aborted = true
-is_done (phase.Open verdict.Ended) = true
+abbrev pub is_done : BoardVerdict → Bool
+is_done board_verdict.Stopped = true
+is_done board_verdict.Aborted = true
+is_done (board_verdict.Open verdict.Ended) = true
 is_done p = false
 
 -- a seat took a ticket
@@ -67,8 +67,8 @@ module _ (shown : Rules → List Reply → View) where
   -- a board advanced as far as it goes: a run is needed then, or none any more
   pub record AdvancedTo (needed : Bool) (board board' : PlainBoard) : Type 0 where
     pub keeps : KeepsGoing board board'
-    pub needs : needs_run (phase_of shown board') ≡ needed
-    pub done : is_done (phase_of shown board') ≡ not needed
+    pub needs : needs_run (board_verdict_of shown board') ≡ needed
+    pub done : is_done (board_verdict_of shown board') ≡ not needed
 
   -- a seat took a ticket, which the board gave after steps that keep the tickets
   pub record TookTicket (board board' : PlainBoard) (seat seat' : SeatState) : Type 0 where
@@ -88,7 +88,7 @@ module _ (shown : Rules → List Reply → View) where
   -- no run is needed any more
   pub record CameToEnd (board board' : PlainBoard) (seat seat' : SeatState) : Type 0 where
     pub keeps : KeepsGoing board board'
-    pub done : is_done (phase_of shown board') ≡ true
+    pub done : is_done (board_verdict_of shown board') ≡ true
     pub same : seat' ≡ seat
 
   -- there was no memory, and the board was stopped

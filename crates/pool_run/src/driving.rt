@@ -1,6 +1,6 @@
 //! One seat that drives a board to its end.
 ghost use Rattle.std.specs.Prelude.{◌≡◌, ◌≤◌, ◌↔◌, [], true, false, IsTrue, IfSome, IsSome, IsSomeAnd};
-ghost use Rattle.board_steps.specs.Boards.{plain};
+ghost use Rattle.board_steps.specs.Boards.{plain_board};
 ghost use Rattle.board_steps.specs.BoardInvariant.{BoardInvariant};
 ghost use Rattle.board_steps.specs.RepliedAsks.{quiet_by};
 ghost use Rattle.board_steps.specs.ShownEntries.{true_by};
@@ -56,7 +56,7 @@ fn run_alone<R: Wait, P: Search, S: Spawner>(
     requires idle { IsTrue (S.told spawner.old).idle }
     ensures idle { IsTrue (S.told spawner.new).idle }
     ensures counts { (S.told spawner.old).faults ≤ (S.told spawner.new).faults }
-    ensures ran { RanTicket program.now result (plain board.old) (plain board.new) (S.told spawner.old) (S.told spawner.new) ticket.now }
+    ensures ran { RanTicket program.now result (plain_board board.old) (plain_board board.new) (S.told spawner.old) (S.told spawner.new) ticket.now }
 {
     match run_once(rt, alloc, spawner, program, &ticket.run) {
         Ok(answer) => {
@@ -83,7 +83,7 @@ fn run_last_alone<R: Wait, P: Search, S: Spawner>(
     ensures counts { seat.old.told.faults ≤ seat.new.told.faults }
     ensures invariant { BoardInvariant P.shown P.plain S.truth board.old }
     ensures seat { seat.new ≡ seat_after result seat.old seat.new.told }
-    ensures ran { IsSomeAnd (last_of seat.old.tickets) (RanTicket program.now result (plain board.old) (plain board.new) seat.old.told seat.new.told) }
+    ensures ran { IsSomeAnd (last_of seat.old.tickets) (RanTicket program.now result (plain_board board.old) (plain_board board.new) seat.old.told seat.new.told) }
 {
     board.is_board();
     let alloc = *seat.tickets.allocator();

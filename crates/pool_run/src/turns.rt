@@ -1,6 +1,6 @@
 //! What a seat does with the board between two runs.
 ghost use Rattle.std.specs.Prelude.{◌≡◌, IfOk, OnErr};
-ghost use Rattle.board_steps.specs.Boards.{plain};
+ghost use Rattle.board_steps.specs.Boards.{plain_board};
 ghost use Rattle.board_steps.specs.Steps.{after_lost};
 ghost use Rattle.pool_run.specs.RunEnds.{stopped_for};
 ghost use Rattle.pool_run.specs.Turns.{AdvancedTo, HasTurned, KeepsGoing};
@@ -30,8 +30,8 @@ fn advance_on<R: Wait, P: Search, S: Spawner>(
     rt: &R,
     board: &mut Board<P, S>,
 ) -> Result<bool, Memory>
-    ensures advanced { IfOk result (λ needed. AdvancedTo P.shown needed (plain board.old) (plain board.new)) }
-    ensures keeps { OnErr result (KeepsGoing (plain board.old) (plain board.new)) }
+    ensures advanced { IfOk result (λ needed. AdvancedTo P.shown needed (plain_board board.old) (plain_board board.new)) }
+    ensures keeps { OnErr result (KeepsGoing (plain_board board.old) (plain_board board.new)) }
 {
     for _ in rt.forever() {
         match board.advance()? {
@@ -49,8 +49,8 @@ fn advance_and_mark<R: Wait, P: Search, S: Spawner>(
     rt: &R,
     board: &mut Board<P, S>,
 ) -> Result<bool, Memory>
-    ensures advanced { IfOk result (λ needed. AdvancedTo P.shown needed (plain board.old) (plain board.new)) }
-    ensures keeps { OnErr result (KeepsGoing (plain board.old) (plain board.new)) }
+    ensures advanced { IfOk result (λ needed. AdvancedTo P.shown needed (plain_board board.old) (plain_board board.new)) }
+    ensures keeps { OnErr result (KeepsGoing (plain_board board.old) (plain_board board.new)) }
 {
     let needed = advance_on(rt, board)?;
     board.mark();
@@ -63,8 +63,8 @@ fn take_turn<R: Wait, P: Search, S: Spawner>(
     board: &mut Board<P, S>,
     seat: &mut Seat<S>,
 ) -> Result<Turn, Memory>
-    ensures turned { IfOk result (λ turn. HasTurned P.shown turn (plain board.old) (plain board.new) seat.old seat.new) }
-    ensures keeps { OnErr result (KeepsGoing (plain board.old) (plain board.new)) }
+    ensures turned { IfOk result (λ turn. HasTurned P.shown turn (plain_board board.old) (plain_board board.new) seat.old seat.new) }
+    ensures keeps { OnErr result (KeepsGoing (plain_board board.old) (plain_board board.new)) }
     ensures same { OnErr result (seat.new ≡ seat.old) }
 {
     let needed = advance_and_mark(rt, board)?;
@@ -89,7 +89,7 @@ pub(crate) fn next_turn<R: Wait, P: Search, S: Spawner>(
     board: &mut Board<P, S>,
     seat: &mut Seat<S>,
 ) -> Turn
-    ensures turned { HasTurned P.shown result (plain board.old) (plain board.new) seat.old seat.new }
+    ensures turned { HasTurned P.shown result (plain_board board.old) (plain_board board.new) seat.old seat.new }
     ensures told { seat.new.told ≡ seat.old.told }
 {
     match take_turn(rt, board, seat) {
@@ -104,7 +104,7 @@ pub(crate) fn next_turn<R: Wait, P: Search, S: Spawner>(
 
 /// Ends a ticket whose run can't be made. Where it was asked for, the board is stopped: nobody goes on.
 pub(crate) fn give_up<P: Search, S: Spawner>(board: &mut Board<P, S>, ticket: &Ticket)
-    ensures { plain board.new ≡ stopped_for ticket.now.kind (after_lost (plain board.old) ticket.now) }
+    ensures { plain_board board.new ≡ stopped_for ticket.now.kind (after_lost (plain_board board.old) ticket.now) }
 {
     board.lost(ticket);
     match ticket.kind {

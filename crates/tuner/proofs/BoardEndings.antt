@@ -20,7 +20,7 @@ use Rattle.ils_face.specs.Views.{View}
 use Rattle.run_cache.specs.declared.cell.Cell.{Cell}
 use Rattle.run_cache.specs.Runs.{IsDue}
 use Rattle.board_steps.specs.BoardInvariant.{BoardInvariant}
-use Rattle.board_steps.specs.Boards.{BoardState, plain}
+use Rattle.board_steps.specs.Boards.{BoardState, plain_board}
 use Rattle.board_steps.specs.declared.tickets.Ticket.{Ticket}
 use Rattle.board_steps.specs.JournalRuns.{run_of}
 use Rattle.board_steps.specs.Problem.{Problem}
@@ -55,7 +55,7 @@ by_board F own rules given replies e h fact = subst (λ r. F r replies) e (subst
 pub sound_abort : (truth : Option (Key → Outcome)) (shown : Rules → List Reply → View) (procedure : Rules → Table → Run) (b : BoardState)
     → BoardInvariant shown procedure truth b → (cell : Cell) → b.aborted ≡ Some cell → IsAsk b.problem.rules (shown b.problem.rules b.replies).ask
     → IsCell b.problem cell
-unfolding plain
+unfolding plain_board
 sound_abort truth shown procedure b inv cell is asked =
     let at = inv.aborting.at cell is in aborted_cell b.problem (shown b.problem.rules b.replies).ask cell asked at.config at.first at.within
 
@@ -99,7 +99,7 @@ module _ (call : Call) (task : Task) (truth : Option (Key → Outcome)) (shown :
       (follows : (rules : Rules) (T : Table) → AreRules rules → Follows (shown rules) (sums_under rules T) (procedure rules T)) where
     -- the cell that is set as aborted, at the present ask
     abort_on : (cell : Cell) → b.aborted ≡ Some cell → IsAsk b.problem.rules view.ask → IsAbort b.problem truth (ask_over truth own (length b.replies)) cell
-    unfolding plain
+    unfolding plain_board
     abort_on cell is asked =
         let at = inv.aborting.at cell is in
         let limits = b.problem.rules.limits in
@@ -111,7 +111,7 @@ module _ (call : Call) (task : Task) (truth : Option (Key → Outcome)) (shown :
           aborts = λ some.
               let here : A (question_of view.ask) = aborts_at limits T view.ask cell at.within (told-abort shown procedure truth b cell is some inv) in
               let there : A (slice_get (quiet_by procedure truth b.problem).asks (length b.replies)) =
-              subst A (present-ask procedure truth shown follows (plain b) inv.ruled (inv.replies some)) here in
+              subst A (present-ask procedure truth shown follows (plain_board b) inv.ruled (inv.replies some)) here in
               subst B (quiet_is own truth procedure is_board.procedure) there;
         }
 
@@ -146,18 +146,18 @@ module _ (call : Call) (task : Task) (truth : Option (Key → Outcome)) (shown :
       module _ (t : Ticket) (taken : IsTakenIn task.problem b.journal t) where
         -- the run of a ticket that was taken is due at its place
         due_on : IsSome truth → IsDueTicket b.problem.rules.limits (table_of truth b.problem) (asks_over truth own) t
-        unfolding plain
+        unfolding plain_board
         due_on some answer =
             let D : Run → Type 0 = λ r. IsDue b.problem.rules.limits (table_of truth b.problem) r.asks t.place (run_of t answer) in
-            subst D (quiet_is own truth procedure is_board.procedure) (due-taken procedure truth (plain b) t answer taken.taken taken.asked.asked (inv.due some))
+            subst D (quiet_is own truth procedure is_board.procedure) (due-taken procedure truth (plain_board b) t answer taken.taken taken.asked.asked (inv.due some))
 
         -- the entries before its ask are shown
         before_on : IsSome truth → Grows (entries_before (quiet_run truth own) t.place) view.entries
-        unfolding plain
+        unfolding plain_board
         before_on some =
             let G : Run → Type 0 = λ r. Grows (entries_before r t.place) view.entries in
             subst G (quiet_is own truth procedure is_board.procedure)
-            (earlier-entries-shown procedure truth shown follows steady (plain b) t.place (place-taken procedure truth (plain b) t taken.taken (inv.due some)) inv.ruled (inv.replies some))
+            (earlier-entries-shown procedure truth shown follows steady (plain_board b) t.place (place-taken procedure truth (plain_board b) t taken.taken (inv.due some)) inv.ruled (inv.replies some))
 
         -- the run of a seat's kept ticket failed
         pub faulted_call : (seat : ℕ) → KeepsFault call task seat t

@@ -7,7 +7,7 @@ use Rattle.std.proofs.lemmas.List.Elements.{All-head, All-tail}
 use Rattle.objective.specs.declared.Outcome.{Outcome}
 use Rattle.wrapper_lines.specs.declared.runs.Key.{Key}
 use Rattle.outside.specs.ToldStates.{SpawnerTold}
-use Rattle.board_steps.specs.Boards.{BoardState, PlainBoard, plain}
+use Rattle.board_steps.specs.Boards.{BoardState, PlainBoard, plain_board}
 use Rattle.board_steps.specs.declared.tickets.LiveTicket.{LiveTicket}
 use Rattle.board_steps.specs.declared.tickets.Ticket.{Ticket}
 use Rattle.board_steps.specs.Problem.{Problem}
@@ -215,12 +215,12 @@ resumes b = by b.stopped (nat_lt 0 (length b.live)) refl refl
     by false false stands lives = record { problem = refl; free = none-live b.live lives; going = stands }
 
 -- a board that goes on, as its steps tell
-pub resumed : (b b' : BoardState) → plain b' ≡ after_resume (plain b) → IsResumed (plain b) (plain b')
-resumed b b' e = let P : PlainBoard → Type 0 = λ c. IsResumed (plain b) c in subst P (sym e) (resumes (plain b))
+pub resumed : (b b' : BoardState) → plain_board b' ≡ after_resume (plain_board b) → IsResumed (plain_board b) (plain_board b')
+resumed b b' e = let P : PlainBoard → Type 0 = λ c. IsResumed (plain_board b) c in subst P (sym e) (resumes (plain_board b))
 
 -- what it is then
-pub goes_on : (b b' : BoardState) → IsResumed (plain b) (plain b') → (b'.problem ≡ b.problem) × IsFree b'
-unfolding plain
+pub goes_on : (b b' : BoardState) → IsResumed (plain_board b) (plain_board b') → (b'.problem ≡ b.problem) × IsFree b'
+unfolding plain_board
 goes_on b b' is = (is.problem, record { free = is.free; going = is.going })
 
 -- ---- the first of a list

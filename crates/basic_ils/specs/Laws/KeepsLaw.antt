@@ -21,7 +21,7 @@ use Rattle.ils_face.specs.declared.asks.Reply.{Reply}
 use Rattle.ils_face.specs.declared.asks.Reply.TheVariants.{Exact, Exceeds}
 use Rattle.ils_frame.specs.Comparers.{question_in, decision_in, Advanced, GoesOn, AreCostsKnown, Keeps}
 use Rattle.ils_frame.proofs.CountedCosts.{counts_after-known}
-use Rattle.basic_ils.specs.State.{Place, Opening, Opened, Second, First, Compared, State, phase_at, is_better, entry, entry_where, last_after, after_evaluation, win_where, coming_at, coming_in, basic_parts, first_state, IsFit, IsFresh, IsKnown, Stands, StandsAt}
+use Rattle.basic_ils.specs.State.{Place, Opening, Opened, Second, First, Compared, State, stage_at, is_better, entry, entry_where, last_after, after_evaluation, win_where, coming_at, coming_in, basic_parts, first_state, IsFit, IsFresh, IsKnown, Stands, StandsAt}
 use Rattle.basic_ils.specs.Laws.SteadyLaw.{at_question}
 use Rattle.basic_ils.specs.Laws.Evaluations.{counts_after-most, counts_after-top, counts_after-itself, evaluate-known, evaluate-unknown}
 
@@ -188,7 +188,7 @@ module _ (setup : Setup) (sums : Sums) (start : Settings) (b : setup.start ≡ s
     abbrev Replied : Place → Question → Type 0
     Replied place q = (x : ℕ) → cost_asked sums q ≡ Some x → GoesOnBy (at_place place) s q (reply_up_to x q.bound)
 
-    replied_by : (place : Place) → StandsAt n start sums last place s → IfSome (question_in (phase_at n last.config place)) (Replied place)
+    replied_by : (place : Place) → StandsAt n start sums last place s → IfSome (question_in (stage_at n last.config place)) (Replied place)
     replied_by Opening k = opening_replied k
     replied_by Opened k = tt
     replied_by (Second first second) k = second_replied first second k
@@ -198,7 +198,7 @@ module _ (setup : Setup) (sums : Sums) (start : Settings) (b : setup.start ≡ s
     abbrev Aborts : Place → Question → Type 0
     Aborts place q = cost_asked sums q ≡ None → coming_at setup sums place s ≡ Ends (after_ask q.config q.places q.bound s) Aborted
 
-    aborts_by : (place : Place) → StandsAt n start sums last place s → IfSome (question_in (phase_at n last.config place)) (Aborts place)
+    aborts_by : (place : Place) → StandsAt n start sums last place s → IfSome (question_in (stage_at n last.config place)) (Aborts place)
     aborts_by Opening k = opening_aborts setup sums n m last s (k.config ∙ sym b)
     aborts_by Opened k = tt
     aborts_by (Second first second) k = second_aborts setup sums n m last s first second k
@@ -237,14 +237,14 @@ module _ (n : ℕ) (sums : Sums) (start : Settings) where
   none_is_asked : {q : Question} → Some q ≡ None → ⊥
   none_is_asked e = cc
 
-  known_at_rest : (last : Incumbent) (place : Place) (s : PlainState) → question_in (phase_at n last.config place) ≡ None → StandsAt n start sums last place s → IsKnown n sums last s
+  known_at_rest : (last : Incumbent) (place : Place) (s : PlainState) → question_in (stage_at n last.config place) ≡ None → StandsAt n start sums last place s → IsKnown n sums last s
   known_at_rest last Opening s e k = absurd (none_is_asked e)
   known_at_rest last Opened s e k = k
   known_at_rest last (Second first second) s e k = k
   known_at_rest last (First first bound) s e k = k.0
   known_at_rest last (Compared won) s e k = k
 
-ended_at : (setup : Setup) (sums : Sums) (n : ℕ) (incumbent : Settings) (place : Place) (s : PlainState) (b : Bool) → decision_in (phase_at n incumbent place) ≡ Some b → coming_at setup sums place s ≡ Goes s b
+ended_at : (setup : Setup) (sums : Sums) (n : ℕ) (incumbent : Settings) (place : Place) (s : PlainState) (b : Bool) → decision_in (stage_at n incumbent place) ≡ Some b → coming_at setup sums place s ≡ Goes s b
 ended_at setup sums n incumbent Opening s b e = absurd (cc)
 ended_at setup sums n incumbent Opened s b e = let t : false ≡ b = cc in ap (Goes s) t
 ended_at setup sums n incumbent (Second first second) s b e = absurd (cc)
@@ -261,9 +261,9 @@ basic_keeps n allowed start setup sums m b zero = record {
   opened = record { incumbent = b; compared = refl; known = λ φ. rw (zero φ) refl; place = record { counts = λ φ. refl; config = refl; runs = refl; sum = refl } };
   opens = refl;
   redrawn = λ c s e k. record { incumbent = k.incumbent; compared = k.compared; known = k.known; place = redrawn_at c.max_runs sums start c.last c.place s e k.place };
-  answered = λ c s q x f k a e. at_question (basic_parts.phase c) (Replied setup sums start b c.max_runs (m ∙ sym f.runs) c.last c.entries s k.incumbent k.compared k.known c.place)
+  answered = λ c s q x f k a e. at_question (basic_parts.stage c) (Replied setup sums start b c.max_runs (m ∙ sym f.runs) c.last c.entries s k.incumbent k.compared k.known c.place)
       (replied_by setup sums start b c.max_runs (m ∙ sym f.runs) c.last c.entries s k.incumbent k.compared k.known c.place k.place) q a x e;
-  aborts = λ c s q f k a e. at_question (basic_parts.phase c) (Aborts setup sums start b c.max_runs (m ∙ sym f.runs) c.last c.entries s k.incumbent k.compared k.known c.place)
+  aborts = λ c s q f k a e. at_question (basic_parts.stage c) (Aborts setup sums start b c.max_runs (m ∙ sym f.runs) c.last c.entries s k.incumbent k.compared k.known c.place)
       (aborts_by setup sums start b c.max_runs (m ∙ sym f.runs) c.last c.entries s k.incumbent k.compared k.known c.place k.place) q a e;
   begins = λ c s θ φ j f k none. let h : IsKnown c.max_runs sums c.last s = known_at_rest c.max_runs sums start c.last c.place s none k.place in record {
     stays = record { incumbent = k.incumbent; compared = refl; known = k.known; place = record { most = h.most; top = h.top; runs = h.runs; sum = h.sum } };

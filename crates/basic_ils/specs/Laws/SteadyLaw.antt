@@ -12,14 +12,14 @@ use Rattle.ils_face.specs.Trajectories.{newest, IsTrajectory}
 use Rattle.ils_face.proofs.Trajectories.{newest-push, trajectory-none, trajectory-push, trajectory-begin}
 use Rattle.ils_face.specs.declared.asks.Reply.{Reply}
 use Rattle.ils_face.specs.declared.asks.Reply.TheVariants.{Exact, Exceeds}
-use Rattle.ils_frame.specs.Comparers.{Phase, Ready, Asking, Decided, question_in, SameIncumbent, NewIncumbent, Answered, Begun, InRange, IsSteadyComparer}
-use Rattle.basic_ils.specs.State.{Place, Opening, Opened, Second, First, Compared, State, phase_at, place_after, evaluated_config, is_renewed, entry, entry_where, added_at, last_after, left_at, basic_parts, first_state, IsPlaceFit, IsEntered, IsFit}
+use Rattle.ils_frame.specs.Comparers.{AskedStage, Ready, Asking, Decided, question_in, SameIncumbent, NewIncumbent, Answered, Begun, InRange, IsSteadyComparer}
+use Rattle.basic_ils.specs.State.{Place, Opening, Opened, Second, First, Compared, State, stage_at, place_after, evaluated_config, is_renewed, entry, entry_where, added_at, last_after, left_at, basic_parts, first_state, IsPlaceFit, IsEntered, IsFit}
 
 -- ---- questions
 
 -- what holds of the open question, where there is one
-pub at_question : (phase : Phase) (P : Question → Type 0) → IfSome (question_in phase) P → (q : Question) → phase ≡ Asking q → P q
-at_question phase P h q e = subst (λ p. IfSome (question_in p) P) e h
+pub at_question : (stage : AskedStage) (P : Question → Type 0) → IfSome (question_in stage) P → (q : Question) → stage ≡ Asking q → P q
+at_question stage P h q e = subst (λ p. IfSome (question_in p) P) e h
 
 -- ---- what is evaluated
 
@@ -71,7 +71,7 @@ module _ (n : ℕ) (allowed : Settings → Type 0) where
   IsEnteredAfter es last place r q = Fits (ask_of q.config q.places q.bound) r → IsEntered (place_after place r) (es ++ added_at n last place r)
 
   entered_after : (es : List Incumbent) (last : Incumbent) (place : Place) (r : Reply) → IsEntered place es
-      → IfSome (question_in (phase_at n last.config place)) (IsEnteredAfter es last place r)
+      → IfSome (question_in (stage_at n last.config place)) (IsEnteredAfter es last place r)
   entered_after es last Opening (Exact x) h = λ fits.
       subst (λ (o : Option Incumbent). IsSome o) (sym (newest-push es (entry n last last.config x.0))) refl
   entered_after es last Opening Exceeds h = λ fits. absurd fits
@@ -83,7 +83,7 @@ module _ (n : ℕ) (allowed : Settings → Type 0) where
   entered_after es last (Compared won) r h = tt
 
   entered_at : (incumbent : Settings) (place : Place) (es : List Incumbent) → IsEntered place es
-      → question_in (phase_at n incumbent place) ≡ None → IsSome (newest es)
+      → question_in (stage_at n incumbent place) ≡ None → IsSome (newest es)
   entered_at incumbent Opening es h e = absurd (cc)
   entered_at incumbent Opened es h e = h
   entered_at incumbent (Second first second) es h e = h
@@ -113,14 +113,14 @@ module _ (n : ℕ) (allowed : Settings → Type 0) where
   earned_by last place q c p (Exact x) = renewed (is_renewed last place x.0) last q x.0 (entry n last (evaluated_config last.config place) x.0) (record { config = c; runs = p; cost = refl })
   earned_by last place q c p Exceeds = inl (same last)
 
-  earned : (last : Incumbent) (place : Place) → IfSome (question_in (phase_at n last.config place)) (Earned last place)
+  earned : (last : Incumbent) (place : Place) → IfSome (question_in (stage_at n last.config place)) (Earned last place)
   earned last Opening = earned_by last Opening (record { config = last.config; places = n; bound = None }) refl refl
   earned last Opened = tt
   earned last (Second first second) = earned_by last (Second first second) (record { config = second; places = n; bound = None }) refl refl
   earned last (First first bound) = earned_by last (First first bound) (record { config = first; places = n; bound = Some bound }) refl refl
   earned last (Compared won) = tt
 
-  nearer : (incumbent : Settings) (place : Place) (r : Reply) → IfSome (question_in (phase_at n incumbent place)) (λ q. left_at (place_after place r) < left_at place)
+  nearer : (incumbent : Settings) (place : Place) (r : Reply) → IfSome (question_in (stage_at n incumbent place)) (λ q. left_at (place_after place r) < left_at place)
   nearer incumbent Opening r = omega arith
   nearer incumbent Opened r = tt
   nearer incumbent (Second first second) (Exact x) = omega arith
@@ -129,7 +129,7 @@ module _ (n : ℕ) (allowed : Settings → Type 0) where
   nearer incumbent (First first bound) Exceeds = omega arith
   nearer incumbent (Compared won) r = tt
 
-  asked_in_range : (last : Incumbent) (place : Place) → 1 ≤ n → allowed last.config → IsPlaceFit allowed last.compared place → IfSome (question_in (phase_at n last.config place)) (InRange n allowed)
+  asked_in_range : (last : Incumbent) (place : Place) → 1 ≤ n → allowed last.config → IsPlaceFit allowed last.compared place → IfSome (question_in (stage_at n last.config place)) (InRange n allowed)
   asked_in_range last Opening some s f = record { config = s; some = some; within = le_refl n }
   asked_in_range last Opened some s f = tt
   asked_in_range last (Second first second) some s f = record { config = f.2; some = some; within = le_refl n }
@@ -143,14 +143,14 @@ module _ (n : ℕ) (allowed : Settings → Type 0) where
   few_left (First first bound) = omega arith
   few_left (Compared won) = omega arith
 
-  ready_fit : (compared : ℕ) (incumbent : Settings) (place : Place) → IsPlaceFit allowed compared place → phase_at n incumbent place ≡ Ready → compared ≡ 0
+  ready_fit : (compared : ℕ) (incumbent : Settings) (place : Place) → IsPlaceFit allowed compared place → stage_at n incumbent place ≡ Ready → compared ≡ 0
   ready_fit compared incumbent Opening f e = f
   ready_fit compared incumbent Opened f e = f
   ready_fit compared incumbent (Second first second) f e = absurd (cc)
   ready_fit compared incumbent (First first bound) f e = absurd (cc)
   ready_fit compared incumbent (Compared won) f e = absurd (cc)
 
-  decided_fit : (compared : ℕ) (incumbent : Settings) (place : Place) (b : Bool) → IsPlaceFit allowed compared place → phase_at n incumbent place ≡ Decided b → 1 ≤ compared
+  decided_fit : (compared : ℕ) (incumbent : Settings) (place : Place) (b : Bool) → IsPlaceFit allowed compared place → stage_at n incumbent place ≡ Decided b → 1 ≤ compared
   decided_fit compared incumbent Opening b f e = absurd (cc)
   decided_fit compared incumbent Opened b f e = absurd (cc)
   decided_fit compared incumbent (Second first second) b f e = f.0
@@ -160,28 +160,28 @@ module _ (n : ℕ) (allowed : Settings → Type 0) where
 -- ---- the law
 
 module _ (n : ℕ) (allowed : Settings → Type 0) where
-  fit_after : (c : State) (q : Question) (r : Reply) → IsFit n allowed c → basic_parts.phase c ≡ Asking q
+  fit_after : (c : State) (q : Question) (r : Reply) → IsFit n allowed c → basic_parts.stage c ≡ Asking q
       → Fits (ask_of q.config q.places q.bound) r → IsFit n allowed (basic_parts.after c r)
   fit_after c q r f e fits = record {
     runs = f.runs;
     some = f.some;
     place = subst (λ m. IsPlaceFit allowed m (place_after c.place r)) (sym (after_compared c.max_runs allowed c.last c.place r)) (place_fit c.max_runs allowed c.last.compared c.place r f.place);
     trajectory = trajectory_after c.max_runs allowed n c.entries c.last c.place r (let k = f.runs in omega (arith, k)) f.trajectory f.place;
-    entered = at_question (basic_parts.phase c) (IsEnteredAfter c.max_runs allowed c.entries c.last c.place r)
+    entered = at_question (basic_parts.stage c) (IsEnteredAfter c.max_runs allowed c.entries c.last c.place r)
         (entered_after c.max_runs allowed c.entries c.last c.place r f.entered) q e fits;
   }
 
-  answered : (c : State) (q : Question) (r : Reply) → IsFit n allowed c → basic_parts.phase c ≡ Asking q
+  answered : (c : State) (q : Question) (r : Reply) → IsFit n allowed c → basic_parts.stage c ≡ Asking q
       → Fits (ask_of q.config q.places q.bound) r → Answered basic_parts (IsFit n allowed) c q r
   answered c q r f e fits = record {
     stays_fit = fit_after c q r f e fits;
-    nearer = at_question (basic_parts.phase c) (λ q. left_at (place_after c.place r) < left_at c.place) (nearer c.max_runs allowed c.last.config c.place r) q e;
+    nearer = at_question (basic_parts.stage c) (λ q. left_at (place_after c.place r) < left_at c.place) (nearer c.max_runs allowed c.last.config c.place r) q e;
     grown = refl;
     compared = after_compared c.max_runs allowed c.last c.place r;
-    incumbent = at_question (basic_parts.phase c) (Earned c.max_runs allowed c.last c.place) (earned c.max_runs allowed c.last c.place) q e r;
+    incumbent = at_question (basic_parts.stage c) (Earned c.max_runs allowed c.last c.place) (earned c.max_runs allowed c.last c.place) q e r;
   }
 
-  begins : (c : State) (θ φ : Settings) (m : ℕ) → IsFit n allowed c → question_in (basic_parts.phase c) ≡ None
+  begins : (c : State) (θ φ : Settings) (m : ℕ) → IsFit n allowed c → question_in (basic_parts.stage c) ≡ None
       → c.last.compared < m → allowed θ → allowed φ
       → Begun basic_parts (IsFit n allowed) n c (basic_parts.begun c θ φ m) m
   begins c θ φ m f none later s t = record {
@@ -199,10 +199,10 @@ module _ (n : ℕ) (allowed : Settings → Type 0) where
     incumbent = record { config = refl; runs = refl; sum = refl };
   }
 
-  in_range : (c : State) (q : Question) → IsFit n allowed c → basic_parts.phase c ≡ Asking q → InRange n allowed q
+  in_range : (c : State) (q : Question) → IsFit n allowed c → basic_parts.stage c ≡ Asking q → InRange n allowed q
   in_range c q f e =
       let some : 1 ≤ c.max_runs = subst (λ k. 1 ≤ k) (sym f.runs) f.some in
-      subst (λ k. InRange k allowed q) f.runs (at_question (basic_parts.phase c) (InRange c.max_runs allowed) (asked_in_range c.max_runs allowed c.last c.place some f.trajectory.config f.place) q e)
+      subst (λ k. InRange k allowed q) f.runs (at_question (basic_parts.stage c) (InRange c.max_runs allowed) (asked_in_range c.max_runs allowed c.last c.place some f.trajectory.config f.place) q e)
 
 -- whatever fitting replies come
 pub basic_steady : (n : ℕ) (allowed : Settings → Type 0) (start : Settings) → 1 ≤ n → allowed start

@@ -21,7 +21,7 @@ use Rattle.ils_face.specs.declared.asks.Reply.TheVariants.{Exceeds}
 use Rattle.ils_frame.specs.Comparers.{Asking, question_in, decision_in, Advanced, GoesOn, Starts, AreCostsKnown, opened_state, Keeps}
 use Rattle.ils_frame.proofs.CountedCosts.{counts_after-known}
 use Rattle.focused_ils.specs.Counts.{Counts, count_in, raised}
-use Rattle.focused_ils.specs.State.{Turn, Place, Opened, High, Low, Further, Compared, Tally, State, is_overtaken, one_of, full_where, question_at, phase_at, is_better, is_extended, entry, last_where, last_after, entry_where, added_by, low_dominates, high_dominates, first_in, first_dominates, place_by, next_turn, place_after_turn, after_evaluation, win_where, replied_by, bonus_next, cleared_at, decision_after, turns_after, turn_from_low, coming_at, coming_in, focused_parts, state_from, first_state, HasMostRuns, IsTurn, IsPlaceFit, IsFit, IsBound, StandsAt, Stands}
+use Rattle.focused_ils.specs.State.{Turn, Place, Opened, High, Low, Further, Compared, Tally, State, is_overtaken, one_of, full_where, question_at, stage_at, is_better, is_extended, entry, last_where, last_after, entry_where, added_by, low_dominates, high_dominates, first_in, first_dominates, place_by, next_turn, place_after_turn, after_evaluation, win_where, replied_by, bonus_next, cleared_at, decision_after, turns_after, turn_from_low, coming_at, coming_in, focused_parts, state_from, first_state, HasMostRuns, IsTurn, IsPlaceFit, IsFit, IsBound, StandsAt, Stands}
 use Rattle.focused_ils.specs.Laws.Counting.{count-none, raised-itself, raised-grows, raised-same}
 use Rattle.focused_ils.specs.Laws.Tallies.{exactly, not_overtaken, extended-where, no_better-itself}
 use Rattle.focused_ils.specs.Laws.SteadyLaw.{at_question}
@@ -303,7 +303,7 @@ module _ (setup : Setup) (sums : Sums) (n : ℕ) (m : setup.max_runs ≡ n) (all
   abbrev Replied : Place → Question → Type 0
   Replied place q = (x : ℕ) → cost_asked sums q ≡ Some x → GoesOnBy place q (reply_up_to x q.bound)
 
-  replied : (place : Place) → IsPlaceFit allowed n t place → StandsAt sums t.last place → IfSome (question_in (phase_at t.last place)) (Replied place)
+  replied : (place : Place) → IsPlaceFit allowed n t place → StandsAt sums t.last place → IfSome (question_in (stage_at t.last place)) (Replied place)
   replied Opened p h = tt
   replied (High turn) p h = high_replied turn
   replied (Low turn bound) p h = λ x e. low_replied turn p.1 p.2 bound h x e (nat_le x bound) refl
@@ -318,7 +318,7 @@ module _ (setup : Setup) (sums : Sums) (n : ℕ) (m : setup.max_runs ≡ n) (all
   in_full_aborts θ i true o e = evaluate-stopped sums t.last s is_incumbent θ i None o e
   in_full_aborts θ i false o e = evaluate-unknown sums t.last s is_incumbent θ i None o e
 
-  aborts : (place : Place) → IsPlaceFit allowed n t place → IfSome (question_in (phase_at t.last place)) (Aborts place)
+  aborts : (place : Place) → IsPlaceFit allowed n t place → IfSome (question_in (stage_at t.last place)) (Aborts place)
   aborts Opened p = tt
   aborts (High turn) p = λ e. rw (in_full_aborts turn.high turn.places (is_overtaken t.last turn.high turn.places) refl e) refl
   aborts (Low turn bound) p = λ e.
@@ -333,7 +333,7 @@ module _ (setup : Setup) (sums : Sums) (n : ℕ) (m : setup.max_runs ≡ n) (all
 last_known : (sums : Sums) (t : Tally) (s : PlainState) → HasMostRuns t → StandsFor sums t s → t.last ≡ last_of sums s
 last_known sums t s f k = rw (k.incumbent, k.compared, k.counts t.last.config, f.top, k.cost) refl
 
-ended_at : (setup : Setup) (sums : Sums) (last : Incumbent) (place : Place) (s : PlainState) (b : Bool) → decision_in (phase_at last place) ≡ Some b → coming_at setup sums place s ≡ Goes s b
+ended_at : (setup : Setup) (sums : Sums) (last : Incumbent) (place : Place) (s : PlainState) (b : Bool) → decision_in (stage_at last place) ≡ Some b → coming_at setup sums place s ≡ Goes s b
 ended_at setup sums last Opened s b e = let t : false ≡ b = cc in ap (Goes s) t
 ended_at setup sums last (High turn) s b e = absurd (cc)
 ended_at setup sums last (Low turn bound) s b e = absurd (cc)
@@ -354,13 +354,13 @@ module _ (setup : Setup) (sums : Sums) (n : ℕ) (m : setup.max_runs ≡ n) (all
   place_so : IsPlaceFit allowed c.max_runs c.tally c.place
   place_so = rw f.runs f.place
 
-  answered : (q : Question) (x : ℕ) → focused_parts.phase c ≡ Asking q → cost_asked sums q ≡ Some x
+  answered : (q : Question) (x : ℕ) → focused_parts.stage c ≡ Asking q → cost_asked sums q ≡ Some x
       → GoesOn focused_parts (Stands sums) (coming_in setup sums) c s q (reply_up_to x q.bound)
-  answered q x a e = at_question (focused_parts.phase c) (Replied setup sums c.max_runs runs_so allowed c.tally c.entries s f.tally (without_place sums c s k) c.place)
+  answered q x a e = at_question (focused_parts.stage c) (Replied setup sums c.max_runs runs_so allowed c.tally c.entries s f.tally (without_place sums c s k) c.place)
       (replied setup sums c.max_runs runs_so allowed c.tally c.entries s f.tally (without_place sums c s k) c.place place_so k.place) q a x e
 
-  aborted : (q : Question) → focused_parts.phase c ≡ Asking q → cost_asked sums q ≡ None → coming_in setup sums c s ≡ Ends (after_ask q.config q.places q.bound s) Aborted
-  aborted q a e = at_question (focused_parts.phase c) (Aborts setup sums c.max_runs runs_so allowed c.tally c.entries s f.tally (without_place sums c s k) c.place)
+  aborted : (q : Question) → focused_parts.stage c ≡ Asking q → cost_asked sums q ≡ None → coming_in setup sums c s ≡ Ends (after_ask q.config q.places q.bound s) Aborted
+  aborted q a e = at_question (focused_parts.stage c) (Aborts setup sums c.max_runs runs_so allowed c.tally c.entries s f.tally (without_place sums c s k) c.place)
       (aborts setup sums c.max_runs runs_so allowed c.tally c.entries s f.tally (without_place sums c s k) c.place place_so) q a e
 
   begins : (θ φ : Settings) (j : ℕ) → Starts focused_parts (Stands sums) (coming_in setup sums) (better_focused setup sums) c θ φ j s

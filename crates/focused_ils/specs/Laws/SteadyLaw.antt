@@ -9,20 +9,20 @@ use Rattle.ils_face.specs.Replies.{Fits, ask_of}
 use Rattle.ils_face.proofs.Trajectories.{trajectory-none, trajectory-push, trajectory-begin}
 use Rattle.ils_face.specs.declared.asks.Reply.{Reply}
 use Rattle.ils_face.specs.declared.asks.Reply.TheVariants.{Exact, Exceeds}
-use Rattle.ils_frame.specs.Comparers.{Phase, Ready, Asking, Decided, question_in, Answered, Begun, InRange, IsSteadyComparer}
+use Rattle.ils_frame.specs.Comparers.{AskedStage, Ready, Asking, Decided, question_in, Answered, Begun, InRange, IsSteadyComparer}
 use Rattle.focused_ils.specs.Counts.{Counts, count_in, raised}
-use Rattle.focused_ils.specs.State.{Turn, Place, Opened, High, Low, Further, Compared, Tally, State, is_overtaken, one_of, full_where, in_full, question_at, phase_at, last_after, first_in, first_dominates, place_by, next_turn, place_after_turn, low_dominates, high_dominates, place_after, tally_after, first_turn, one_where, left_at, focused_parts, first_incumbent, state_from, first_state, HasMostRuns, IsTurn, IsPlaceFit, IsFit}
+use Rattle.focused_ils.specs.State.{Turn, Place, Opened, High, Low, Further, Compared, Tally, State, is_overtaken, one_of, full_where, in_full, question_at, stage_at, last_after, first_in, first_dominates, place_by, next_turn, place_after_turn, low_dominates, high_dominates, place_after, tally_after, first_turn, one_where, left_at, focused_parts, first_incumbent, state_from, first_state, HasMostRuns, IsTurn, IsPlaceFit, IsFit}
 use Rattle.focused_ils.specs.Laws.Counting.{count-none, raised-new, raised-grows, raised-most}
 use Rattle.focused_ils.specs.Laws.Tallies.{exactly, overtaken-where, not_overtaken, not_overtaken-due, last-extended, last-compared, last-earned, most-kept, most-after, trajectory-after, earlier-after, entered-after}
 
 -- ---- questions
 
 -- what holds of the open question, where there is one
-pub at_question : (phase : Phase) (P : Question → Type 0) → IfSome (question_in phase) P → (q : Question) → phase ≡ Asking q → P q
-at_question phase P h q e = subst (λ p. IfSome (question_in p) P) e h
+pub at_question : (stage : AskedStage) (P : Question → Type 0) → IfSome (question_in stage) P → (q : Question) → stage ≡ Asking q → P q
+at_question stage P h q e = subst (λ p. IfSome (question_in p) P) e h
 
 -- the open question is the one of the place
-pub question_so : (last : Incumbent) (place : Place) → IfSome (question_in (phase_at last place)) (λ q. q ≡ question_at last place)
+pub question_so : (last : Incumbent) (place : Place) → IfSome (question_in (stage_at last place)) (λ q. q ≡ question_at last place)
 question_so last Opened = tt
 question_so last (High turn) = refl
 question_so last (Low turn bound) = refl
@@ -107,7 +107,7 @@ module _ (allowed : Settings → Type 0) (n : ℕ) where
   still_later : (last : Incumbent) (q : Question) (r : Reply) → 1 ≤ last.compared → 1 ≤ (last_after last q r).compared
   still_later last q r h = subst (λ m. 1 ≤ m) (sym (last-compared last q r)) h
 
-  place_fit : (t : Tally) (place : Place) → HasMostRuns t → t.last.runs ≤ n → IsPlaceFit allowed n t place → IfSome (question_in (phase_at t.last place)) (FitAfter t place)
+  place_fit : (t : Tally) (place : Place) → HasMostRuns t → t.last.runs ≤ n → IsPlaceFit allowed n t place → IfSome (question_in (stage_at t.last place)) (FitAfter t place)
   place_fit t Opened m few f = tt
   place_fit t (High turn) m few f = high
     where
@@ -151,7 +151,7 @@ module _ (allowed : Settings → Type 0) (n : ℕ) where
       → HasMostRuns (record { counts = raised t.counts (in_full t.last θ m).config m; last = last_after t.last (in_full t.last θ m) (exactly x); bonus = bonus })
   most_in_full t θ m bonus x f = most-after t f (in_full t.last θ m).config m bonus x (not_overtaken-due t.last θ m (is_overtaken t.last θ m) refl)
 
-  tally_fit : (t : Tally) (place : Place) → HasMostRuns t → IsPlaceFit allowed n t place → IfSome (question_in (phase_at t.last place)) (MostAfter t place)
+  tally_fit : (t : Tally) (place : Place) → HasMostRuns t → IsPlaceFit allowed n t place → IfSome (question_in (stage_at t.last place)) (MostAfter t place)
   tally_fit t Opened f p = tt
   tally_fit t (High turn) f p = high
     where
@@ -175,7 +175,7 @@ module _ (allowed : Settings → Type 0) (n : ℕ) where
 
   -- ---- what is asked
 
-  asked_in_range : (t : Tally) (place : Place) → allowed t.last.config → IsPlaceFit allowed n t place → IfSome (question_in (phase_at t.last place)) (InRange n allowed)
+  asked_in_range : (t : Tally) (place : Place) → allowed t.last.config → IsPlaceFit allowed n t place → IfSome (question_in (stage_at t.last place)) (InRange n allowed)
   asked_in_range t Opened s f = tt
   asked_in_range t (High turn) s f = record { config = one_allowed (is_overtaken t.last turn.high turn.places) t.last.config turn.high s f.1.high; some = f.1.some; within = f.1.within }
   asked_in_range t (Low turn bound) s f = record { config = f.1.low; some = f.1.some; within = f.1.within }
@@ -243,7 +243,7 @@ module _ (n : ℕ) where
       at_either false zero = omega arith
       at_either false (suc more) = let w : one_where (is_overtaken last turn.high (min (turn.places + 1) n)) ≤ 1 = few_where _ in omega (arith, w)
 
-  nearer : (t : Tally) (place : Place) → IfSome (question_in (phase_at t.last place)) (NearerAfter t place)
+  nearer : (t : Tally) (place : Place) → IfSome (question_in (stage_at t.last place)) (NearerAfter t place)
   nearer t Opened = tt
   nearer t (High turn) = high
     where
@@ -262,14 +262,14 @@ module _ (n : ℕ) where
 -- ---- the stages
 
 module _ (allowed : Settings → Type 0) (n : ℕ) (t : Tally) where
-  ready_fit : (place : Place) → IsPlaceFit allowed n t place → phase_at t.last place ≡ Ready → t.last.compared ≡ 0
+  ready_fit : (place : Place) → IsPlaceFit allowed n t place → stage_at t.last place ≡ Ready → t.last.compared ≡ 0
   ready_fit Opened f e = f
   ready_fit (High turn) f e = absurd (cc)
   ready_fit (Low turn bound) f e = absurd (cc)
   ready_fit (Further θ m) f e = absurd (cc)
   ready_fit (Compared won) f e = absurd (cc)
 
-  decided_fit : (place : Place) (b : Bool) → IsPlaceFit allowed n t place → phase_at t.last place ≡ Decided b → 1 ≤ t.last.compared
+  decided_fit : (place : Place) (b : Bool) → IsPlaceFit allowed n t place → stage_at t.last place ≡ Decided b → 1 ≤ t.last.compared
   decided_fit Opened b f e = absurd (cc)
   decided_fit (High turn) b f e = f.0
   decided_fit (Low turn bound) b f e = f.0
@@ -279,29 +279,29 @@ module _ (allowed : Settings → Type 0) (n : ℕ) (t : Tally) where
 -- ---- the law
 
 module _ (n : ℕ) (allowed : Settings → Type 0) where
-  fit_after : (c : State) (q : Question) (r : Reply) → IsFit n allowed c → focused_parts.phase c ≡ Asking q
+  fit_after : (c : State) (q : Question) (r : Reply) → IsFit n allowed c → focused_parts.stage c ≡ Asking q
       → Fits (ask_of q.config q.places q.bound) r → IsFit n allowed (focused_parts.after c r)
   fit_after c q r f e fits =
-      let range : InRange n allowed q = at_question (focused_parts.phase c) (InRange n allowed) (asked_in_range allowed n c.tally c.place f.trajectory.config f.place) q e in
-      let same : q ≡ question_at c.tally.last c.place = at_question (focused_parts.phase c) (λ q. q ≡ question_at c.tally.last c.place) (question_so c.tally.last c.place) q e in
+      let range : InRange n allowed q = at_question (focused_parts.stage c) (InRange n allowed) (asked_in_range allowed n c.tally c.place f.trajectory.config f.place) q e in
+      let same : q ≡ question_at c.tally.last c.place = at_question (focused_parts.stage c) (λ q. q ≡ question_at c.tally.last c.place) (question_so c.tally.last c.place) q e in
       let there : InRange n allowed (question_at c.tally.last c.place) = subst (λ q. InRange n allowed q) same range in
       record {
         runs = f.runs;
         some = f.some;
-        tally = at_question (focused_parts.phase c) (MostAfter allowed n c.tally c.place) (tally_fit allowed n c.tally c.place f.tally f.place) q e r fits;
-        place = rw f.runs (at_question (focused_parts.phase c) (FitAfter allowed n c.tally c.place) (place_fit allowed n c.tally c.place f.tally f.trajectory.runs f.place) q e r fits);
+        tally = at_question (focused_parts.stage c) (MostAfter allowed n c.tally c.place) (tally_fit allowed n c.tally c.place f.tally f.place) q e r fits;
+        place = rw f.runs (at_question (focused_parts.stage c) (FitAfter allowed n c.tally c.place) (place_fit allowed n c.tally c.place f.tally f.trajectory.runs f.place) q e r fits);
         trajectory = trajectory-after n allowed c.tally.last c.entries (question_at c.tally.last c.place) r there.config there.within f.earlier f.trajectory;
         entered = entered-after n allowed c.tally.last c.entries (question_at c.tally.last c.place) r f.entered;
         earlier = earlier-after n allowed c.tally.last c.entries (question_at c.tally.last c.place) r f.earlier;
       }
 
-  answered : (c : State) (q : Question) (r : Reply) → IsFit n allowed c → focused_parts.phase c ≡ Asking q
+  answered : (c : State) (q : Question) (r : Reply) → IsFit n allowed c → focused_parts.stage c ≡ Asking q
       → Fits (ask_of q.config q.places q.bound) r → Answered focused_parts (IsFit n allowed) c q r
   answered c q r f e fits =
-      let same : q ≡ question_at c.tally.last c.place = at_question (focused_parts.phase c) (λ q. q ≡ question_at c.tally.last c.place) (question_so c.tally.last c.place) q e in
+      let same : q ≡ question_at c.tally.last c.place = at_question (focused_parts.stage c) (λ q. q ≡ question_at c.tally.last c.place) (question_so c.tally.last c.place) q e in
       record {
         stays_fit = fit_after c q r f e fits;
-        nearer = at_question (focused_parts.phase c) (NearerAfter c.max_runs c.tally c.place) (nearer c.max_runs c.tally c.place) q e r fits;
+        nearer = at_question (focused_parts.stage c) (NearerAfter c.max_runs c.tally c.place) (nearer c.max_runs c.tally c.place) q e r fits;
         grown = refl;
         compared = last-compared c.tally.last (question_at c.tally.last c.place) r;
         incumbent = rw same (last-earned c.tally.last (question_at c.tally.last c.place) r);
@@ -341,7 +341,7 @@ focused_steady n allowed start some s = record {
   };
   few = omega arith;
   nothing_yet = refl;
-  in_range = λ c q f e. at_question (focused_parts.phase c) (InRange n allowed) (asked_in_range allowed n c.tally c.place f.trajectory.config f.place) q e;
+  in_range = λ c q f e. at_question (focused_parts.stage c) (InRange n allowed) (asked_in_range allowed n c.tally c.place f.trajectory.config f.place) q e;
   trajectory = λ c f. f.trajectory;
   entered = λ c f none. f.entered;
   ready_first = λ c f e. ready_fit allowed n c.tally c.place f.place e;

@@ -88,7 +88,7 @@ module _ {S : Type 0} (parts : Parts S) (fit : S → Type 0) (stands : S → Pla
     (setup : Setup) (sums : Sums) (first : S) (keeps : Keeps parts fit stands coming better opening setup sums first)
     (allowed : Settings → Type 0) (draws : DrawsAllowed allowed setup) (few_steps : setup.strength ≤ Limits.max_strength) (steady : IsSteadyComparer parts fit setup.max_runs allowed setup.start first) where
   abbrev s0 : PlainState
-  s0 = settle_state parts setup first Opening 0 (decision_in (parts.phase first)) (opened_state parts setup first)
+  s0 = settle_state parts setup first Opening 0 (decision_in (parts.stage first)) (opened_state parts setup first)
 
   same_run : search_after setup better opening (at_first setup) ≡ search_coming parts setup better coming (first_machine parts setup first) s0
   unfolding search_after

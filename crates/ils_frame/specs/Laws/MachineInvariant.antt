@@ -9,7 +9,7 @@ use Rattle.ils_face.specs.declared.asks.Reply.{Reply}
 use Rattle.ils_face.specs.Replies.{Fits, ask_of}
 use Rattle.ils_frame.specs.declared.pending.Pending.{Pending}
 use Rattle.ils_frame.specs.declared.pending.Pending.TheVariants.{Opening}
-use Rattle.ils_frame.specs.Comparers.{Phase, Ready, Asking, Decided, is_asking, question_in, decision_in, Parts, SameIncumbent, NewIncumbent, Answered, Begun, IsSteadyComparer}
+use Rattle.ils_frame.specs.Comparers.{AskedStage, Ready, Asking, Decided, is_asking, question_in, decision_in, Parts, SameIncumbent, NewIncumbent, Answered, Begun, IsSteadyComparer}
 use Rattle.ils_frame.specs.NextComparison.{Next, Compare, Finish, next}
 use Rattle.ils_frame.specs.Machine.{Machine, begin, settle, first_machine, next_machine, answers_left, view_of}
 use Rattle.ils_frame.specs.Laws.AllowedConfigs.{DrawsAllowed, IsNextAllowed, next-allowed}
@@ -20,12 +20,12 @@ use Rattle.ils_frame.specs.Laws.TurnsLeft.{IsSpare, IsNextSpare, next-spare, IsD
 abbrev pub most_draws : ℕ
 most_draws = Limits.max_strength + 3
 
-pub not-asking : (p : Phase) → is_asking p ≡ false → question_in p ≡ None
+pub not-asking : (p : AskedStage) → is_asking p ≡ false → question_in p ≡ None
 not-asking Ready e = refl
 not-asking (Asking q) e = absurd (false≢true (sym e))
 not-asking (Decided b) e = refl
 
-pub asking-here : (p : Phase) (q : Question) → p ≡ Asking q → is_asking p ≡ true
+pub asking-here : (p : AskedStage) (q : Question) → p ≡ Asking q → is_asking p ≡ true
 asking-here p q e = ap is_asking e
 
 module _ {S : Type 0} (parts : Parts S) (fit : S → Type 0) (setup : Setup) (allowed : Settings → Type 0) (draws : DrawsAllowed allowed setup) (few_steps : setup.strength ≤ Limits.max_strength)
@@ -37,7 +37,7 @@ module _ {S : Type 0} (parts : Parts S) (fit : S → Type 0) (setup : Setup) (al
   pub record IsFitting (f : Machine S) : Type 0 where
     pub stays_fit : fit f.comparer
     pub within : compared f.comparer ≤ setup.budget
-    pub asks : is_asking (parts.phase f.comparer) ≡ not f.over
+    pub asks : is_asking (parts.stage f.comparer) ≡ not f.over
     pub named : IsPendingAllowed allowed f.pending
     pub spared : f.over ≡ false → IsSpare setup (compared f.comparer) f.pending
     pub spent : f.over ≡ true → compared f.comparer ≡ setup.budget
@@ -60,7 +60,7 @@ module _ {S : Type 0} (parts : Parts S) (fit : S → Type 0) (setup : Setup) (al
   record CanBegin (c : S) : Type 0 where
     is_fit : fit c
     within : compared c ≤ setup.budget
-    asks_nothing : is_asking (parts.phase c) ≡ false
+    asks_nothing : is_asking (parts.stage c) ≡ false
 
   begun : (c : S) → CanBegin c → (n : Next) → IsNextAllowed allowed n → IsNextSpare setup (compared c) n → IsDrawnBy setup (most_draws * (compared c + 2)) n → IsSettled c (begin parts setup c n)
   begun c k (Finish e) d s b = record {
@@ -87,7 +87,7 @@ module _ {S : Type 0} (parts : Parts S) (fit : S → Type 0) (setup : Setup) (al
         incumbent = same (parts.last c);
       }
       at_either false t =
-          let g : Begun parts fit setup.max_runs c (parts.begun c θ φ (compared c + 1)) (compared c + 1) = steady.begins c θ φ (compared c + 1) k.is_fit (not-asking (parts.phase c) k.asks_nothing) (omega arith) d.1 d.2 in
+          let g : Begun parts fit setup.max_runs c (parts.begun c θ φ (compared c + 1)) (compared c + 1) = steady.begins c θ φ (compared c + 1) k.is_fit (not-asking (parts.stage c) k.asks_nothing) (omega arith) d.1 d.2 in
           let n : compared c < setup.budget = let z = eqb-false (compared c) setup.budget t in let w = k.within in omega (arith, w, z) in
           record {
             fitting = record {
@@ -110,7 +110,7 @@ module _ {S : Type 0} (parts : Parts S) (fit : S → Type 0) (setup : Setup) (al
     spared : IsSpare setup (compared c) purpose
     drawn : e ≤ most_draws * (compared c + 1)
 
-  settled_at : (c : S) → fit c → compared c ≤ setup.budget → (purpose : Pending) (e : ℕ) → IsKept c purpose e → (p : Phase) → parts.phase c ≡ p → IsSettled c (settle parts setup c purpose e (decision_in p))
+  settled_at : (c : S) → fit c → compared c ≤ setup.budget → (purpose : Pending) (e : ℕ) → IsKept c purpose e → (p : AskedStage) → parts.stage c ≡ p → IsSettled c (settle parts setup c purpose e (decision_in p))
   unfolding settle
   settled_at c f w purpose e k (Asking q) t = record {
     fitting = record { stays_fit = f; within = w; asks = ap is_asking t; named = k.named; spared = λ o. k.spared; spent = λ o. not_both o; drawn = λ o. k.drawn };
@@ -125,8 +125,8 @@ module _ {S : Type 0} (parts : Parts S) (fit : S → Type 0) (setup : Setup) (al
       (next-allowed allowed setup draws (compared c) purpose b e k.named) (next-spare setup (compared c) w purpose b e k.spared)
       (next-drawn setup (compared c) (most_draws * (compared c + 2)) purpose b e (let d = k.drawn in omega (arith, d, few_steps)))
 
-  settled : (c : S) → fit c → compared c ≤ setup.budget → (purpose : Pending) (e : ℕ) → IsKept c purpose e → IsSettled c (settle parts setup c purpose e (decision_in (parts.phase c)))
-  settled c f w purpose e k = settled_at c f w purpose e k (parts.phase c) refl
+  settled : (c : S) → fit c → compared c ≤ setup.budget → (purpose : Pending) (e : ℕ) → IsKept c purpose e → IsSettled c (settle parts setup c purpose e (decision_in (parts.stage c)))
+  settled c f w purpose e k = settled_at c f w purpose e k (parts.stage c) refl
 
   pub first_machine-settled : IsSettled first (first_machine parts setup first)
   first_machine-settled = settled first steady.opened (let z : compared first ≡ 0 = ap (λ i. i.compared) steady.nothing_yet in omega (arith, z)) Opening 0 (record { named = tt; spared = tt; drawn = omega arith })
@@ -145,21 +145,21 @@ module _ {S : Type 0} (parts : Parts S) (fit : S → Type 0) (setup : Setup) (al
   then_new q r b c p s = record { config = s.config ∙ p.config; runs = s.runs ∙ p.runs; cost = rw s.sum p.cost }
 
   -- where an ask is open the search isn't over
-  pub live : (f : Machine S) (q : Question) → IsFitting f → parts.phase f.comparer ≡ Asking q → f.over ≡ false
+  pub live : (f : Machine S) (q : Question) → IsFitting f → parts.stage f.comparer ≡ Asking q → f.over ≡ false
   live f q k e = going f.over k.asks
     where
-      going : (o : Bool) → is_asking (parts.phase f.comparer) ≡ not o → o ≡ false
+      going : (o : Bool) → is_asking (parts.stage f.comparer) ≡ not o → o ≡ false
       going false d = refl
-      going true d = absurd (false≢true (sym d ∙ asking-here (parts.phase f.comparer) q e))
+      going true d = absurd (false≢true (sym d ∙ asking-here (parts.stage f.comparer) q e))
 
   -- a machine after an answer, settled
-  pub next_machine-settled : (f : Machine S) (q : Question) (r : Reply) → IsFitting f → parts.phase f.comparer ≡ Asking q → Answered parts fit f.comparer q r → IsSettled (parts.after f.comparer r) (next_machine parts setup f r)
+  pub next_machine-settled : (f : Machine S) (q : Question) (r : Reply) → IsFitting f → parts.stage f.comparer ≡ Asking q → Answered parts fit f.comparer q r → IsSettled (parts.after f.comparer r) (next_machine parts setup f r)
   next_machine-settled f q r k e a =
       let w : compared f.comparer ≤ setup.budget = k.within in
       settled (parts.after f.comparer r) a.stays_fit (rw a.compared w) f.pending f.event
       (record { named = k.named; spared = rw a.compared (k.spared (live f q k e)); drawn = rw a.compared (k.drawn (live f q k e)) })
 
-  pub replies : (f : Machine S) (q : Question) (r : Reply) → IsFitting f → parts.phase f.comparer ≡ Asking q → Fits (ask_of q.config q.places q.bound) r → Replied f q r
+  pub replies : (f : Machine S) (q : Question) (r : Reply) → IsFitting f → parts.stage f.comparer ≡ Asking q → Fits (ask_of q.config q.places q.bound) r → Replied f q r
   replies f q r k e fits =
       let a : Answered parts fit f.comparer q r = steady.answered f.comparer q r k.stays_fit e fits in
       let t : IsSettled (parts.after f.comparer r) (next_machine parts setup f r) = next_machine-settled f q r k e a in

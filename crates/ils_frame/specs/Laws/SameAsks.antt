@@ -9,7 +9,7 @@ use Rattle.uncapped.specs.Setup.{Setup}
 use Rattle.uncapped.specs.Uncapped.{Run, run_after, or_nothing}
 use Rattle.ils_face.specs.declared.asks.Reply.{Reply}
 use Rattle.ils_face.specs.Replies.{Fits, ask_of, reply_up_to, cost_asked, reply_to}
-use Rattle.ils_frame.specs.Comparers.{Phase, Ready, Asking, Decided, is_asking, question_in, Parts, IsSteadyComparer, additions_after, Keeps}
+use Rattle.ils_frame.specs.Comparers.{AskedStage, Ready, Asking, Decided, is_asking, question_in, Parts, IsSteadyComparer, additions_after, Keeps}
 use Rattle.ils_frame.specs.Machine.{Machine, next_machine, after_all, view_of}
 use Rattle.ils_frame.specs.Laws.StandsFor.{answered_state, search_coming, IsSound, Turn, turns, aborts, finishes}
 use Rattle.ils_frame.specs.Laws.AllowedConfigs.{DrawsAllowed}
@@ -68,7 +68,7 @@ pub record Plays {S : Type 0} (parts : Parts S) (setup : Setup) (sums : Sums) (f
   pub all_asks : run.asks ≡ s.asks ++ rest
   pub all_entries : run.entries ≡ s.entries ++ late
   pub later : AreLater (length s.asks) late
-  pub shown_asks : (k : ℕ) → k ≤ count → question_in (parts.phase (after_all parts setup f (map (reply_to sums) (take k rest))).comparer) ≡ slice_get rest k
+  pub shown_asks : (k : ℕ) → k ≤ count → question_in (parts.stage (after_all parts setup f (map (reply_to sums) (take k rest))).comparer) ≡ slice_get rest k
   pub shown_entries : (k : ℕ) → k ≤ count → parts.entries (after_all parts setup f (map (reply_to sums) (take k rest))).comparer ≡ parts.entries f.comparer ++ map entry_in (filter (is_before (length s.asks + k)) late)
   pub known : (k : ℕ) → k < count → IfSome (slice_get rest k) (λ q. IsSome (cost_asked sums q))
   pub finished : run.end ≡ Finished → (length rest ≡ count) × (parts.entries (after_all parts setup f (map (reply_to sums) rest)).comparer ≡ parts.entries f.comparer ++ map entry_in late)
@@ -96,7 +96,7 @@ module _ {S : Type 0} (parts : Parts S) (fit : S → Type 0) (stands : S → Pla
   abbrev PlaysFrom : Machine S → PlainState → Type 0
   PlaysFrom f s = Plays parts setup sums f s (run_after sums (search_coming parts setup better coming f s))
 
-  asks_nothing : (f : Machine S) → question_in (parts.phase f.comparer) ≡ None → (k : ℕ) → k ≤ 0 → question_in (parts.phase (after_all parts setup f (map (reply_to sums) (take k []))).comparer) ≡ slice_get [] k
+  asks_nothing : (f : Machine S) → question_in (parts.stage f.comparer) ≡ None → (k : ℕ) → k ≤ 0 → question_in (parts.stage (after_all parts setup f (map (reply_to sums) (take k []))).comparer) ≡ slice_get [] k
   unfolding after_all
   asks_nothing f none zero h = none
   asks_nothing f none (suc k) h = absurd (omega (arith, h))
@@ -106,7 +106,7 @@ module _ {S : Type 0} (parts : Parts S) (fit : S → Type 0) (stands : S → Pla
   shows_same f n zero h = sym (append-nil (parts.entries f.comparer))
   shows_same f n (suc k) h = absurd (omega (arith, h))
 
-  done : (f : Machine S) (s : PlainState) → Sound f s → is_asking (parts.phase f.comparer) ≡ false → PlaysFrom f s
+  done : (f : Machine S) (s : PlainState) → Sound f s → is_asking (parts.stage f.comparer) ≡ false → PlaysFrom f s
   unfolding after_all
   done f s k e = rw (finishes parts fit stands coming better opening setup sums first keeps allowed draws few_steps steady fitting f s k e) (record {
     rest = [];
@@ -115,14 +115,14 @@ module _ {S : Type 0} (parts : Parts S) (fit : S → Type 0) (stands : S → Pla
     all_asks = sym (append-nil s.asks);
     all_entries = sym (append-nil s.entries);
     later = tt;
-    shown_asks = asks_nothing f (not-asking (parts.phase f.comparer) e);
+    shown_asks = asks_nothing f (not-asking (parts.stage f.comparer) e);
     shown_entries = shows_same f (length s.asks);
     known = λ k h. absurd (omega (arith, h));
     finished = λ o. (refl, sym (append-nil (parts.entries f.comparer)), keeps.last f.comparer s k.stays_fitting.stays_fit k.stays);
     aborted = λ o. not_aborted o;
   })
 
-  asks_one : (f : Machine S) (q : Question) → question_in (parts.phase f.comparer) ≡ Some q → (k : ℕ) → k ≤ 0 → question_in (parts.phase (after_all parts setup f (map (reply_to sums) (take k (q ∷ [])))).comparer) ≡ slice_get (q ∷ []) k
+  asks_one : (f : Machine S) (q : Question) → question_in (parts.stage f.comparer) ≡ Some q → (k : ℕ) → k ≤ 0 → question_in (parts.stage (after_all parts setup f (map (reply_to sums) (take k (q ∷ [])))).comparer) ≡ slice_get (q ∷ []) k
   unfolding after_all
   asks_one f q e zero h = e
   asks_one f q e (suc k) h = absurd (omega (arith, h))
@@ -132,7 +132,7 @@ module _ {S : Type 0} (parts : Parts S) (fit : S → Type 0) (stands : S → Pla
   shows_none f q n zero h = sym (append-nil (parts.entries f.comparer))
   shows_none f q n (suc k) h = absurd (omega (arith, h))
 
-  stopped : (f : Machine S) (s : PlainState) (q : Question) → Sound f s → parts.phase f.comparer ≡ Asking q → cost_asked sums q ≡ None → PlaysFrom f s
+  stopped : (f : Machine S) (s : PlainState) (q : Question) → Sound f s → parts.stage f.comparer ≡ Asking q → cost_asked sums q ≡ None → PlaysFrom f s
   unfolding after_all
   stopped f s q k e unknown = rw (aborts parts fit stands coming better opening setup sums first keeps allowed draws few_steps steady fitting f s q k e unknown) (record {
     rest = q ∷ [];
@@ -148,7 +148,7 @@ module _ {S : Type 0} (parts : Parts S) (fit : S → Type 0) (stands : S → Pla
     aborted = λ o. (refl, unknown, sym (append-nil (parts.entries f.comparer)));
   })
 
-  module _ (f : Machine S) (s : PlainState) (q : Question) (x : ℕ) (e : parts.phase f.comparer ≡ Asking q) (known : cost_asked sums q ≡ Some x) where
+  module _ (f : Machine S) (s : PlainState) (q : Question) (x : ℕ) (e : parts.stage f.comparer ≡ Asking q) (known : cost_asked sums q ≡ Some x) where
     abbrev g : Machine S
     g = next_machine parts setup f (reply_up_to x q.bound)
 
@@ -201,9 +201,9 @@ module _ {S : Type 0} (parts : Parts S) (fit : S → Type 0) (stands : S → Pla
         joined : (es : List Incumbent) → parts.entries g.comparer ++ map entry_in p.late ≡ parts.entries f.comparer ++ map entry_in (additions_after (length s.asks + 1) new ++ p.late)
         joined es = split (map entry_in p.late) ∙ ap (λ es. parts.entries f.comparer ++ es) (ap (λ n. n ++ map entry_in p.late) (sym (unnumbered (length s.asks + 1) new)) ∙ sym (map-append entry_in (additions_after (length s.asks + 1) new) p.late))
 
-        asks_on : (k : ℕ) → k ≤ suc p.count → question_in (parts.phase (after_all parts setup f (map (reply_to sums) (take k (q ∷ p.rest)))).comparer) ≡ slice_get (q ∷ p.rest) k
+        asks_on : (k : ℕ) → k ≤ suc p.count → question_in (parts.stage (after_all parts setup f (map (reply_to sums) (take k (q ∷ p.rest)))).comparer) ≡ slice_get (q ∷ p.rest) k
         asks_on zero h = ap question_in e
-        asks_on (suc k) h = ap (λ m. question_in (parts.phase m.comparer)) (on (map (reply_to sums) (take k p.rest))) ∙ p.shown_asks k (omega (arith, h))
+        asks_on (suc k) h = ap (λ m. question_in (parts.stage m.comparer)) (on (map (reply_to sums) (take k p.rest))) ∙ p.shown_asks k (omega (arith, h))
 
         -- those that were just added, and those of the rest that were added before
         sorted : (k : ℕ) → filter (is_before (length s.asks + suc k)) (additions_after (length s.asks + 1) new ++ p.late) ≡ additions_after (length s.asks + 1) new ++ filter (is_before (length u.asks + k)) p.late
@@ -234,12 +234,12 @@ module _ {S : Type 0} (parts : Parts S) (fit : S → Type 0) (stands : S → Pla
 
   pub plays : (fuel : ℕ) (f : Machine S) (s : PlainState) → Sound f s → (view_of parts setup f).left < fuel → PlaysFrom f s
   plays zero f s k h = absurd (omega (arith, h))
-  plays (suc fuel) f s k h = at_phase (λ g u. plays fuel g u) (parts.phase f.comparer) refl
+  plays (suc fuel) f s k h = at_stage (λ g u. plays fuel g u) (parts.stage f.comparer) refl
     where
       IH : Type 0
       IH = (g : Machine S) (u : PlainState) → Sound g u → (view_of parts setup g).left < fuel → PlaysFrom g u
 
-      at_cost : IH → (q : Question) → parts.phase f.comparer ≡ Asking q → (o : Option ℕ) → cost_asked sums q ≡ o → PlaysFrom f s
+      at_cost : IH → (q : Question) → parts.stage f.comparer ≡ Asking q → (o : Option ℕ) → cost_asked sums q ≡ o → PlaysFrom f s
       at_cost ih q e None c = stopped f s q k e c
       at_cost ih q e (Some x) c =
           let t : Turn parts fit stands coming better opening setup sums first keeps allowed draws few_steps steady fitting f s q (reply_up_to x q.bound) = turns parts fit stands coming better opening setup sums first keeps allowed draws few_steps steady fitting f s q x k e c in
@@ -247,7 +247,7 @@ module _ {S : Type 0} (parts : Parts S) (fit : S → Type 0) (stands : S → Pla
           let m : (view_of parts setup (next_machine parts setup f (reply_up_to x q.bound))).left < (view_of parts setup f).left = n.falls in
           goes_on_playing f s q x e c t (ih (next_machine parts setup f (reply_up_to x q.bound)) (answered_state parts setup f (reply_up_to x q.bound) s) t.sound (omega (arith, h, m)))
 
-      at_phase : IH → (p : Phase) → parts.phase f.comparer ≡ p → PlaysFrom f s
-      at_phase ih Ready e = done f s k (ap is_asking e)
-      at_phase ih (Asking q) e = at_cost ih q e (cost_asked sums q) refl
-      at_phase ih (Decided b) e = done f s k (ap is_asking e)
+      at_stage : IH → (p : AskedStage) → parts.stage f.comparer ≡ p → PlaysFrom f s
+      at_stage ih Ready e = done f s k (ap is_asking e)
+      at_stage ih (Asking q) e = at_cost ih q e (cost_asked sums q) refl
+      at_stage ih (Decided b) e = done f s k (ap is_asking e)

@@ -9,7 +9,7 @@ use Rattle.uncapped.specs.Searching.{compare}
 use Rattle.ils_face.specs.declared.asks.Reply.{Reply}
 use Rattle.ils_face.specs.Replies.{Fits, ask_of, reply_up_to, cost_asked}
 use Rattle.ils_frame.specs.declared.pending.Pending.{Pending}
-use Rattle.ils_frame.specs.Comparers.{Phase, Ready, Asking, Decided, is_asking, question_in, decision_in, Parts, Answered, IsSteadyComparer, additions_after, GoesOn, Starts, Keeps}
+use Rattle.ils_frame.specs.Comparers.{AskedStage, Ready, Asking, Decided, is_asking, question_in, decision_in, Parts, Answered, IsSteadyComparer, additions_after, GoesOn, Starts, Keeps}
 use Rattle.ils_frame.specs.NextComparison.{Next, Compare, Finish, next}
 use Rattle.ils_frame.specs.Laws.NextSteps.{continuation, run_next, at_event, nexts}
 use Rattle.ils_frame.specs.Machine.{Machine, begin, settle, next_machine}
@@ -30,7 +30,7 @@ module _ {S : Type 0} (parts : Parts S) (setup : Setup) where
 
   -- the state after one more reply
   abbrev pub answered_state : Machine S → Reply → PlainState → PlainState
-  answered_state f r s = settle_state (parts.after f.comparer r) f.pending f.event (decision_in (parts.phase (parts.after f.comparer r))) (parts.replied f.comparer r s)
+  answered_state f r s = settle_state (parts.after f.comparer r) f.pending f.event (decision_in (parts.stage (parts.after f.comparer r))) (parts.replied f.comparer r s)
 
   -- what is to come of the search
   module _ (better : Settings → Settings → Procedure Bool) (coming : S → Procedure Bool) where
@@ -60,7 +60,7 @@ module _ {S : Type 0} (parts : Parts S) (fit : S → Type 0) (stands : S → Pla
   coming_of f = search_coming parts setup better coming f
 
   -- the next comparison begins, or the budget is used up
-  begins : (c : S) (s : PlainState) → fit c → stands c s → question_in (parts.phase c) ≡ None → (n : Next)
+  begins : (c : S) (s : PlainState) → fit c → stands c s → question_in (parts.stage c) ≡ None → (n : Next)
       → run_next setup better n s ≡ coming_of (begin parts setup c n) (begin_state parts setup c n s)
   begins c s f h none (Finish e) = refl
   begins c s f h none (Compare purpose θ φ e) = at_either ((parts.last c).compared == setup.budget) refl
@@ -87,7 +87,7 @@ module _ {S : Type 0} (parts : Parts S) (fit : S → Type 0) (stands : S → Pla
           ∙ ap (λ n. better θ φ (record (at_event s e) { compared = n + 1 })) number ∙ started.same)
 
   -- where a comparison was decided, the next one begins
-  settles_at : (c : S) (s : PlainState) → fit c → stands c s → (purpose : Pending) (p : Phase) → parts.phase c ≡ p
+  settles_at : (c : S) (s : PlainState) → fit c → stands c s → (purpose : Pending) (p : AskedStage) → parts.stage c ≡ p
       → (coming c >>= continuation setup better purpose) s ≡ coming_of (settle parts setup c purpose s.event (decision_in p)) (settle_state parts setup c purpose s.event (decision_in p) s)
   unfolding settle settle_state
   settles_at c s f h purpose (Asking q) e = refl
@@ -103,9 +103,9 @@ module _ {S : Type 0} (parts : Parts S) (fit : S → Type 0) (stands : S → Pla
       ∙ begins c s f h (ap question_in e) (next setup (parts.last c).compared purpose b s.event)
 
   pub settles : (c : S) (s : PlainState) → fit c → stands c s → (purpose : Pending) (e : ℕ) → s.event ≡ e
-      → (coming c >>= continuation setup better purpose) s ≡ coming_of (settle parts setup c purpose e (decision_in (parts.phase c))) (settle_state parts setup c purpose e (decision_in (parts.phase c)) s)
-  settles c s f h purpose e k = subst (λ n. (coming c >>= continuation setup better purpose) s ≡ coming_of (settle parts setup c purpose n (decision_in (parts.phase c))) (settle_state parts setup c purpose n (decision_in (parts.phase c)) s)) k
-      (settles_at c s f h purpose (parts.phase c) refl)
+      → (coming c >>= continuation setup better purpose) s ≡ coming_of (settle parts setup c purpose e (decision_in (parts.stage c))) (settle_state parts setup c purpose e (decision_in (parts.stage c)) s)
+  settles c s f h purpose e k = subst (λ n. (coming c >>= continuation setup better purpose) s ≡ coming_of (settle parts setup c purpose n (decision_in (parts.stage c))) (settle_state parts setup c purpose n (decision_in (parts.stage c)) s)) k
+      (settles_at c s f h purpose (parts.stage c) refl)
 
   -- what a settled machine stands for: nothing was asked or added, and the next draw has its number
   pub record StandsFor (s : PlainState) (f : Machine S) (t : PlainState) : Type 0 where
@@ -114,7 +114,7 @@ module _ {S : Type 0} (parts : Parts S) (fit : S → Type 0) (stands : S → Pla
     pub asks : t.asks ≡ s.asks
     pub entries : t.entries ≡ s.entries
 
-  begin_stands : (c : S) (s : PlainState) → fit c → stands c s → question_in (parts.phase c) ≡ None → (n : Next) → StandsFor s (begin parts setup c n) (begin_state parts setup c n s)
+  begin_stands : (c : S) (s : PlainState) → fit c → stands c s → question_in (parts.stage c) ≡ None → (n : Next) → StandsFor s (begin parts setup c n) (begin_state parts setup c n s)
   begin_stands c s f h none (Finish e) = record { stays = keeps.redrawn c s e h; event = λ o. refl; asks = refl; entries = refl }
   begin_stands c s f h none (Compare purpose θ φ e) = at_either ((parts.last c).compared == setup.budget)
     where
@@ -133,7 +133,7 @@ module _ {S : Type 0} (parts : Parts S) (fit : S → Type 0) (stands : S → Pla
       at_either true = record { stays = keeps.redrawn c s e h; event = λ o. refl; asks = refl; entries = refl }
       at_either false = record { stays = started.stays; event = λ o. started.unasked.event; asks = started.unasked.asks; entries = started.unasked.entries }
 
-  settle_stands_at : (c : S) (s : PlainState) → fit c → stands c s → (purpose : Pending) (e : ℕ) → s.event ≡ e → (p : Phase) → parts.phase c ≡ p
+  settle_stands_at : (c : S) (s : PlainState) → fit c → stands c s → (purpose : Pending) (e : ℕ) → s.event ≡ e → (p : AskedStage) → parts.stage c ≡ p
       → StandsFor s (settle parts setup c purpose e (decision_in p)) (settle_state parts setup c purpose e (decision_in p) s)
   unfolding settle settle_state
   settle_stands_at c s f h purpose e k (Asking q) t = record { stays = h; event = λ o. k; asks = refl; entries = refl }
@@ -141,8 +141,8 @@ module _ {S : Type 0} (parts : Parts S) (fit : S → Type 0) (stands : S → Pla
   settle_stands_at c s f h purpose e k (Decided b) t = begin_stands c s f h (ap question_in t) (next setup (parts.last c).compared purpose b e)
 
   pub settle_stands : (c : S) (s : PlainState) → fit c → stands c s → (purpose : Pending) (e : ℕ) → s.event ≡ e
-      → StandsFor s (settle parts setup c purpose e (decision_in (parts.phase c))) (settle_state parts setup c purpose e (decision_in (parts.phase c)) s)
-  settle_stands c s f h purpose e k = settle_stands_at c s f h purpose e k (parts.phase c) refl
+      → StandsFor s (settle parts setup c purpose e (decision_in (parts.stage c))) (settle_state parts setup c purpose e (decision_in (parts.stage c)) s)
+  settle_stands c s f h purpose e k = settle_stands_at c s f h purpose e k (parts.stage c) refl
 
   module _ (allowed : Settings → Type 0) (draws : DrawsAllowed allowed setup) (few_steps : setup.strength ≤ Limits.max_strength) (steady : IsSteadyComparer parts fit setup.max_runs allowed setup.start first)
       (fitting : (q : Question) (x : ℕ) → Fits (ask_of q.config q.places q.bound) (reply_up_to x q.bound)) where
@@ -163,7 +163,7 @@ module _ {S : Type 0} (parts : Parts S) (fit : S → Type 0) (stands : S → Pla
     live_coming : (f : Machine S) (s : PlainState) → f.over ≡ false → coming_of f s ≡ (coming f.comparer >>= continuation setup better f.pending) s
     live_coming f s o = rw o refl
 
-    pub turns : (f : Machine S) (s : PlainState) (q : Question) (x : ℕ) → IsSound f s → parts.phase f.comparer ≡ Asking q → cost_asked sums q ≡ Some x → Turn f s q (reply_up_to x q.bound)
+    pub turns : (f : Machine S) (s : PlainState) (q : Question) (x : ℕ) → IsSound f s → parts.stage f.comparer ≡ Asking q → cost_asked sums q ≡ Some x → Turn f s q (reply_up_to x q.bound)
     turns f s q x k e known =
         let r : Reply = reply_up_to x q.bound in
         let a : Answered parts fit f.comparer q r = steady.answered f.comparer q r k.stays_fitting.stays_fit e (fitting q x) in
@@ -182,15 +182,15 @@ module _ {S : Type 0} (parts : Parts S) (fit : S → Type 0) (stands : S → Pla
         }
 
     -- an unknown cost: the procedure is aborted
-    pub aborts : (f : Machine S) (s : PlainState) (q : Question) → IsSound f s → parts.phase f.comparer ≡ Asking q → cost_asked sums q ≡ None → coming_of f s ≡ Ends (after_ask q.config q.places q.bound s) Aborted
+    pub aborts : (f : Machine S) (s : PlainState) (q : Question) → IsSound f s → parts.stage f.comparer ≡ Asking q → cost_asked sums q ≡ None → coming_of f s ≡ Ends (after_ask q.config q.places q.bound s) Aborted
     aborts f s q k e unknown =
         live_coming f s (live parts fit setup allowed draws few_steps first steady f q k.stays_fitting e)
         ∙ ap (λ a. goes_on a (continuation setup better f.pending)) (keeps.aborts f.comparer s q k.stays_fitting.stays_fit k.stays e unknown)
 
-    over_at : (o : Bool) (p : Phase) → is_asking p ≡ not o → is_asking p ≡ false → o ≡ true
+    over_at : (o : Bool) (p : AskedStage) → is_asking p ≡ not o → is_asking p ≡ false → o ≡ true
     over_at true p e z = refl
     over_at false p e z = absurd (false≢true (sym z ∙ e))
 
     -- no ask is open: the procedure has finished
-    pub finishes : (f : Machine S) (s : PlainState) → IsSound f s → is_asking (parts.phase f.comparer) ≡ false → coming_of f s ≡ Ends s Finished
-    finishes f s k e = rw (over_at f.over (parts.phase f.comparer) k.stays_fitting.asks e) refl
+    pub finishes : (f : Machine S) (s : PlainState) → IsSound f s → is_asking (parts.stage f.comparer) ≡ false → coming_of f s ≡ Ends s Finished
+    finishes f s k e = rw (over_at f.over (parts.stage f.comparer) k.stays_fitting.asks e) refl

@@ -15,7 +15,7 @@ use Rattle.ils_face.proofs.Setups.{SetupOf, setup_of-numbers}
 use Rattle.ils_face.specs.Views.{View, AreFitting}
 use Rattle.ils_face.specs.Trajectories.{IsTrajectory}
 use Rattle.ils_face.specs.Steady.{IsEvaluation, IsAsk, AsksFor, WasReplied, IsEarned, Steps, IsSteady}
-use Rattle.ils_frame.specs.Comparers.{Phase, Ready, Asking, Decided, is_asking, question_in, Parts, SameIncumbent, NewIncumbent, InRange, IsSteadyComparer}
+use Rattle.ils_frame.specs.Comparers.{AskedStage, Ready, Asking, Decided, is_asking, question_in, Parts, SameIncumbent, NewIncumbent, InRange, IsSteadyComparer}
 use Rattle.ils_frame.specs.Machine.{Machine, first_machine, next_machine, after_all, view_of, machine_after, shown_after}
 use Rattle.ils_frame.specs.Laws.AllowedConfigs.{DrawsAllowed}
 use Rattle.ils_frame.specs.Laws.MachineInvariant.{IsFitting, Replied, replies, not-asking, first_machine-settled, then_same, then_new}
@@ -23,13 +23,13 @@ use Rattle.ils_face.specs.Setups.{setup_of}
 use Rattle.ils_frame.specs.Laws.AllowedDraws.{draws_allowed}
 use Rattle.param_space.specs.Space.{defaults}
 
--- a reply that fits what a phase shows fits its question
-pub record FitsAt (p : Phase) (r : Reply) : Type 0 where
+-- a reply that fits what a stage shows fits its question
+pub record FitsAt (p : AskedStage) (r : Reply) : Type 0 where
   pub question : Question
   pub here : p ≡ Asking question
   pub fits : Fits (ask_of question.config question.places question.bound) r
 
-pub fits_at : (p : Phase) (r : Reply) → Fits (ask_for (question_in p)) r → FitsAt p r
+pub fits_at : (p : AskedStage) (r : Reply) → Fits (ask_for (question_in p)) r → FitsAt p r
 fits_at Ready r i = absurd i
 fits_at (Asking q) r i = record { question = q; here = refl; fits = i }
 fits_at (Decided b) r i = absurd i
@@ -41,7 +41,7 @@ asks_question q = at_either q.bound
     at_either None = (refl, refl)
     at_either (Some b) = (refl, refl)
 
-ends_without : (p : Phase) → ask_for (question_in p) ≡ End → is_asking p ≡ false
+ends_without : (p : AskedStage) → ask_for (question_in p) ≡ End → is_asking p ≡ false
 ends_without Ready e = refl
 ends_without (Asking q) e = absurd (at_either q.bound e)
   where
@@ -69,19 +69,19 @@ module _ {S : Type 0} (parts : Parts S) (fit : S → Type 0) (rules : Rules) (se
   abbrev Fitting : Machine S → Type 0
   Fitting f = IsFitting parts fit setup (IsConfig rules.space) draws few_steps first steady f
 
-  one_more : (f : Machine S) (r : Reply) → Fitting f → (a : FitsAt (parts.phase f.comparer) r) → Replied parts fit setup (IsConfig rules.space) draws few_steps first steady f a.question r
+  one_more : (f : Machine S) (r : Reply) → Fitting f → (a : FitsAt (parts.stage f.comparer) r) → Replied parts fit setup (IsConfig rules.space) draws few_steps first steady f a.question r
   one_more f r k a = replies parts fit setup (IsConfig rules.space) draws few_steps first steady f a.question r k a.here a.fits
 
   pub reached : (f : Machine S) → Fitting f → (rs : List Reply) → AreFitting (shown_from parts setup f) rs → Fitting (after_all parts setup f rs)
   unfolding after_all
   reached f k [] i = k
-  reached f k (r ∷ later) i = reached (next_machine parts setup f r) (one_more f r k (fits_at (parts.phase f.comparer) r i.0)).fitting later i.1
+  reached f k (r ∷ later) i = reached (next_machine parts setup f r) (one_more f r k (fits_at (parts.stage f.comparer) r i.0)).fitting later i.1
 
   abbrev Earned : Machine S → List Reply → Type 0
   Earned f rs = SameIncumbent (parts.last f.comparer) (parts.last (after_all parts setup f rs).comparer)
       ⊎ WasReplied (shown_from parts setup f) rs (parts.last (after_all parts setup f rs).comparer).config (parts.last (after_all parts setup f rs).comparer).runs (parts.last (after_all parts setup f rs).comparer).sum
 
-  asks_here : (p : Phase) (q : Question) → p ≡ Asking q → AsksFor (ask_for (question_in p)) q.config q.places
+  asks_here : (p : AskedStage) (q : Question) → p ≡ Asking q → AsksFor (ask_for (question_in p)) q.config q.places
   asks_here p q e = subst (λ p. AsksFor (ask_for (question_in p)) q.config q.places) (sym e) (asks_question q)
 
   was_replied : (ask : Ask) (q : Question) (r : Reply) (last : Incumbent) → AsksFor ask q.config q.places → NewIncumbent q r last → AsksFor ask last.config last.runs × (r ≡ Exact (record { 0 = last.sum }))
@@ -91,7 +91,7 @@ module _ {S : Type 0} (parts : Parts S) (fit : S → Type 0) (rules : Rules) (se
   unfolding after_all
   earned f k [] i = inl (record { config = refl; runs = refl; sum = refl })
   earned f k (r ∷ later) i =
-      let a : FitsAt (parts.phase f.comparer) r = fits_at (parts.phase f.comparer) r i.0 in
+      let a : FitsAt (parts.stage f.comparer) r = fits_at (parts.stage f.comparer) r i.0 in
       let t : Replied parts fit setup (IsConfig rules.space) draws few_steps first steady f a.question r = one_more f r k a in
       let g : Machine S = next_machine parts setup f r in
       let end : Incumbent = parts.last (after_all parts setup g later).comparer in
@@ -99,7 +99,7 @@ module _ {S : Type 0} (parts : Parts S) (fit : S → Type 0) (rules : Rules) (se
         | inr w ↦ inr (inr w)
         | inl s ↦ elim t.incumbent [
           | inl p ↦ inl (then_same parts fit setup (IsConfig rules.space) draws few_steps first steady (parts.last f.comparer) (parts.last g.comparer) end p s)
-          | inr n ↦ inr (inl (was_replied (ask_for (question_in (parts.phase f.comparer))) a.question r end (asks_here (parts.phase f.comparer) a.question a.here)
+          | inr n ↦ inr (inl (was_replied (ask_for (question_in (parts.stage f.comparer))) a.question r end (asks_here (parts.stage f.comparer) a.question a.here)
               (then_new parts fit setup (IsConfig rules.space) draws few_steps first steady a.question r (parts.last g.comparer) end n s)))
         ]
       ]
@@ -107,7 +107,7 @@ module _ {S : Type 0} (parts : Parts S) (fit : S → Type 0) (rules : Rules) (se
   pub first_fitting : Fitting (first_machine parts setup first)
   first_fitting = (first_machine-settled parts fit setup (IsConfig rules.space) draws few_steps first steady).fitting
 
-  is_ask : (p : Phase) → ((q : Question) → p ≡ Asking q → InRange setup.max_runs (IsConfig rules.space) q) → IsAsk rules (ask_for (question_in p))
+  is_ask : (p : AskedStage) → ((q : Question) → p ≡ Asking q → InRange setup.max_runs (IsConfig rules.space) q) → IsAsk rules (ask_for (question_in p))
   is_ask Ready h = tt
   is_ask (Asking q) h = at_either q.bound (h q refl)
     where
@@ -119,7 +119,7 @@ module _ {S : Type 0} (parts : Parts S) (fit : S → Type 0) (rules : Rules) (se
       at_either (Some b) i = within i
   is_ask (Decided b) h = tt
 
-  over_at : (o : Bool) (p : Phase) → is_asking p ≡ not o → is_asking p ≡ false → o ≡ true
+  over_at : (o : Bool) (p : AskedStage) → is_asking p ≡ not o → is_asking p ≡ false → o ≡ true
   over_at true p e z = refl
   over_at false p e z = absurd (false≢true (sym z ∙ e))
 
@@ -134,14 +134,14 @@ module _ {S : Type 0} (parts : Parts S) (fit : S → Type 0) (rules : Rules) (se
 
   steps : (f : Machine S) (r : Reply) → Fitting f → Fits (view_of parts setup f).ask r → Steps (view_of parts setup f) (view_of parts setup (next_machine parts setup f r))
   steps f r k i =
-      let a : FitsAt (parts.phase f.comparer) r = fits_at (parts.phase f.comparer) r i in
+      let a : FitsAt (parts.stage f.comparer) r = fits_at (parts.stage f.comparer) r i in
       let t : Replied parts fit setup (IsConfig rules.space) draws few_steps first steady f a.question r = one_more f r k a in
       record { falls = t.falls; grows = record { added = parts.added f.comparer r; grown = t.grown } }
 
   pub search_steady : IsSteady rules from_first
   search_steady = record {
     asks = λ rs i. let k : Fitting (at_end rs) = reached (first_machine parts setup first) first_fitting rs i in
-        is_ask (parts.phase (at_end rs).comparer) (λ q e. steady.in_range (at_end rs).comparer q k.stays_fit e);
+        is_ask (parts.stage (at_end rs).comparer) (λ q e. steady.in_range (at_end rs).comparer q k.stays_fit e);
     trajectory = λ rs i. let k : Fitting (at_end rs) = reached (first_machine parts setup first) first_fitting rs i in
         subst (λ n. IsTrajectory n (IsConfig rules.space) (parts.entries (at_end rs).comparer) (parts.last (at_end rs).comparer))
         same.max_runs (steady.trajectory (at_end rs).comparer k.stays_fit);
@@ -152,10 +152,10 @@ module _ {S : Type 0} (parts : Parts S) (fit : S → Type 0) (rules : Rules) (se
       | inr w ↦ inr w
     ];
     spent = λ rs i e. let k : Fitting (at_end rs) = reached (first_machine parts setup first) first_fitting rs i in
-        k.spent (over_at (at_end rs).over (parts.phase (at_end rs).comparer) k.asks (ends_without (parts.phase (at_end rs).comparer) e)) ∙ same.budget;
+        k.spent (over_at (at_end rs).over (parts.stage (at_end rs).comparer) k.asks (ends_without (parts.stage (at_end rs).comparer) e)) ∙ same.budget;
     opened = λ rs i e. let k : Fitting (at_end rs) = reached (first_machine parts setup first) first_fitting rs i in
         steady.entered (at_end rs).comparer k.stays_fit
-        (not-asking (parts.phase (at_end rs).comparer) (ends_without (parts.phase (at_end rs).comparer) e));
+        (not-asking (parts.stage (at_end rs).comparer) (ends_without (parts.stage (at_end rs).comparer) e));
     steps = λ rs r i fits. let k : Fitting (at_end rs) = reached (first_machine parts setup first) first_fitting rs i in
         rw (after_all-more parts setup (first_machine parts setup first) rs r) (steps (at_end rs) r k fits);
   }

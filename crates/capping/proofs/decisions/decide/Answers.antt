@@ -6,7 +6,7 @@ use Rattle.ils_face.specs.declared.asks.Ask.TheVariants.{End}
 use Rattle.ils_face.specs.Replies.{Fits}
 use Rattle.ils_face.specs.Traces.{question_of, IsReplyBy}
 use Rattle.run_cache.specs.Caches.{known_in}
-use Rattle.capping.specs.Decisions.{place_count, IfReply, IfNeed, IfAborted, OnEnded, IsAtMost, IsNeeded, IsDueAt, IsKnownAbort, IsFirstAbort, GoesOn}
+use Rattle.capping.specs.Decisions.{place_count, IfReply, IfNeedOf, IfAbortedOf, OnEnded, IsAtMost, IsNeeded, IsDueAt, IsKnownAbort, IsFirstAbort, GoesOn}
 use Rattle.capping.proofs.Promises.{fits, bounded, needs, goes_on, found, ended, replies, is_due, aborts}
 use Rattle.capping.proofs.decisions.decide.Goals as goal
 
@@ -21,17 +21,17 @@ returns-clause-bound c =
 
 pub returns-clause-need : goal.returns-clause-need
 returns-clause-need c =
-    subst (λ v. IfNeed v c.args.ask.now (IsNeeded c.args.cache.now.limits (known_in c.args.cache.now)))
+    subst (λ v. IfNeedOf v c.args.ask.now (IsNeeded c.args.cache.now.limits (known_in c.args.cache.now)))
     (sym c.verdict_on.ensures.value) (needs c.args.cache.now.limits (known_in c.args.cache.now) c.args.ask.now c.verdict_on.ensures.ranged)
 
 pub returns-clause-progress : goal.returns-clause-progress
 returns-clause-progress c =
-    subst (λ v. IfNeed v c.args.ask.now (GoesOn c.args.cache.now.limits (known_in c.args.cache.now) c.args.ask.now))
+    subst (λ v. IfNeedOf v c.args.ask.now (GoesOn c.args.cache.now.limits (known_in c.args.cache.now) c.args.ask.now))
     (sym c.verdict_on.ensures.value) (goes_on c.args.cache.now.limits (known_in c.args.cache.now) c.args.ask.now)
 
 pub returns-clause-found : goal.returns-clause-found
 returns-clause-found c =
-    subst (λ v. IfAborted v c.args.ask.now (IsKnownAbort (known_in c.args.cache.now))) (sym c.verdict_on.ensures.value)
+    subst (λ v. IfAbortedOf v c.args.ask.now (IsKnownAbort (known_in c.args.cache.now))) (sym c.verdict_on.ensures.value)
     (found c.args.cache.now.limits (known_in c.args.cache.now) c.args.ask.now)
 
 pub returns-clause-ended : goal.returns-clause-ended
@@ -45,10 +45,10 @@ returns-clause-reply c = λ T a.
 
 pub returns-clause-due : goal.returns-clause-due
 returns-clause-due c = λ T a.
-    subst (λ v. IfNeed v c.args.ask.now (IsDueAt c.args.cache.now.limits T))
+    subst (λ v. IfNeedOf v c.args.ask.now (IsDueAt c.args.cache.now.limits T))
     (sym c.verdict_on.ensures.value) (is_due c.args.cache.now T a c.args.ask.now)
 
 pub returns-clause-aborted : goal.returns-clause-aborted
 returns-clause-aborted c = λ T a.
-    subst (λ v. IfAborted v c.args.ask.now (IsFirstAbort c.args.cache.now.limits T))
+    subst (λ v. IfAbortedOf v c.args.ask.now (IsFirstAbort c.args.cache.now.limits T))
     (sym c.verdict_on.ensures.value) (aborts c.args.cache.now T a c.args.ask.now)

@@ -10,16 +10,16 @@ use Rattle.ils_frame.proofs.beginning.set_out.Goals as goal
 pub returns-then-eq : goal.returns-then-eq
 returns-then-eq g c =
     let first = g.C.Comparer.at_open c.args.rules.now in
-    let here : is_asking (g.C.Comparer.parts.phase c.args.comparer.now) ≡ true = search rules in
-    let asks : is_asking (g.C.Comparer.parts.phase first) ≡ true = ap (λ d. is_asking (g.C.Comparer.parts.phase d)) (sym c.requires.opened) ∙ here in
+    let here : is_asking (g.C.Comparer.parts.stage c.args.comparer.now) ≡ true = search rules in
+    let asks : is_asking (g.C.Comparer.parts.stage first) ≡ true = ap (λ d. is_asking (g.C.Comparer.parts.stage d)) (sym c.requires.opened) ∙ here in
     ap (λ d. machine_of d (record { pending = Opening; event = 0; over = false })) c.requires.opened
     ∙ opens-asking g.C.Comparer.parts first c.args.rules.now asks
 
 pub returns : goal.returns
 returns g c =
     let first = g.C.Comparer.at_open c.args.rules.now in
-    let here : is_asking (g.C.Comparer.parts.phase c.args.comparer.now) ≡ false = search rules in
-    let asks : is_asking (g.C.Comparer.parts.phase first) ≡ false = ap (λ d. is_asking (g.C.Comparer.parts.phase d)) (sym c.requires.opened) ∙ here in
+    let here : is_asking (g.C.Comparer.parts.stage c.args.comparer.now) ≡ false = search rules in
+    let asks : is_asking (g.C.Comparer.parts.stage first) ≡ false = ap (λ d. is_asking (g.C.Comparer.parts.stage d)) (sym c.requires.opened) ∙ here in
     opens-next g.C.Comparer.parts first c.args.rules.now _ asks
     (c.begin.ensures
     ∙ ap (begin g.C.Comparer.parts (setup_of c.args.rules.now) c.args.comparer.now) (c.in_ok-upcoming.ensures

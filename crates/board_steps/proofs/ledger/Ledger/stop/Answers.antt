@@ -8,6 +8,6 @@ pub invariant_of-self : goal.invariant_of-self
 invariant_of-self c =
     let l = c.self.inside in
     let running : l.stopped ≡ false = ap (λ s. s.stopped) c.self.view_is ∙ c.requires in
-    let P : Bool → Type 0 = λ stopped. HasRoom (vec_capacity l.journal) (vec_capacity l.shunned) l.live.items l.shunned.items l.next stopped l.journal.items in
+    let P : Bool → Type 0 = λ stopped. HasRoom (vec_capacity l.journal) (vec_capacity l.lost_ahead) l.live.items l.lost_ahead.items l.next stopped l.journal.items in
     let room = room_stopped _ _ _ _ _ _ (subst P running c.self.invariant) in
     rw (c.push_reserved.ensures.capacity, c.push_reserved.ensures.items, c.mark_live.ensures) room

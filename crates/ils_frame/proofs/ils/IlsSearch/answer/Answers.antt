@@ -16,7 +16,7 @@ use Rattle.ils_frame.proofs.ils.IlsSearch.answer.Goals as goal
 pub next-requires-clause-allowed : goal.next-requires-clause-allowed
 next-requires-clause-allowed g c =
     let kept : Rules = c.self.inside.rules.value in
-    let fits : Fits (ask_for (question_in (g.C.Comparer.parts.phase c.self.inside.comparer))) c.args.reply = search rules in
+    let fits : Fits (ask_for (question_in (g.C.Comparer.parts.stage c.self.inside.comparer))) c.args.reply = search rules in
     let can = can-answer g.C.Comparer.parts (g.C.Comparer.at_open kept) kept c.self.invariant.ruled (g.C.Comparer.fit kept) (g.met.C.Comparer.steady kept c.self.invariant.ruled)
     (machine_of c.self.inside.comparer c.self.inside.course) c.self.inside.replies.items c.args.reply c.self.invariant.reached c.self.invariant.fitting fits in
     rw c.deref-rules.ensures can.allowed
@@ -24,7 +24,7 @@ next-requires-clause-allowed g c =
 pub next-requires-clause-event : goal.next-requires-clause-event
 next-requires-clause-event g c =
     let kept : Rules = c.self.inside.rules.value in
-    let fits : Fits (ask_for (question_in (g.C.Comparer.parts.phase c.self.inside.comparer))) c.args.reply = search rules in
+    let fits : Fits (ask_for (question_in (g.C.Comparer.parts.stage c.self.inside.comparer))) c.args.reply = search rules in
     let can = can-answer g.C.Comparer.parts (g.C.Comparer.at_open kept) kept c.self.invariant.ruled (g.C.Comparer.fit kept) (g.met.C.Comparer.steady kept c.self.invariant.ruled)
     (machine_of c.self.inside.comparer c.self.inside.course) c.self.inside.replies.items c.args.reply c.self.invariant.reached c.self.invariant.fitting fits in
     can.drawn
@@ -32,7 +32,7 @@ next-requires-clause-event g c =
 pub next-requires-clause-within : goal.next-requires-clause-within
 next-requires-clause-within g c =
     let kept : Rules = c.self.inside.rules.value in
-    let fits : Fits (ask_for (question_in (g.C.Comparer.parts.phase c.self.inside.comparer))) c.args.reply = search rules in
+    let fits : Fits (ask_for (question_in (g.C.Comparer.parts.stage c.self.inside.comparer))) c.args.reply = search rules in
     let can = can-answer g.C.Comparer.parts (g.C.Comparer.at_open kept) kept c.self.invariant.ruled (g.C.Comparer.fit kept) (g.met.C.Comparer.steady kept c.self.invariant.ruled)
     (machine_of c.self.inside.comparer c.self.inside.course) c.self.inside.replies.items c.args.reply c.self.invariant.reached c.self.invariant.fitting fits in
     let w : (g.C.Comparer.parts.last c.self.inside.comparer).compared ≤ kept.budget = can.within in
@@ -41,7 +41,7 @@ next-requires-clause-within g c =
 pub begin-requires-clause-within : goal.begin-requires-clause-within
 begin-requires-clause-within g c =
     let kept : Rules = c.self.inside.rules.value in
-    let fits : Fits (ask_for (question_in (g.C.Comparer.parts.phase c.self.inside.comparer))) c.args.reply = search rules in
+    let fits : Fits (ask_for (question_in (g.C.Comparer.parts.stage c.self.inside.comparer))) c.args.reply = search rules in
     let can = can-answer g.C.Comparer.parts (g.C.Comparer.at_open kept) kept c.self.invariant.ruled (g.C.Comparer.fit kept) (g.met.C.Comparer.steady kept c.self.invariant.ruled)
     (machine_of c.self.inside.comparer c.self.inside.course) c.self.inside.replies.items c.args.reply c.self.invariant.reached c.self.invariant.fitting fits in
     let w : (g.C.Comparer.parts.last c.self.inside.comparer).compared ≤ kept.budget = can.within in
@@ -56,7 +56,7 @@ invariant_of-self-2 g c =
     let old : List Reply = c.self.inside.replies.items in
     let here = machine_of c.self.inside.comparer c.self.inside.course in
     let steady = g.met.C.Comparer.steady kept c.self.invariant.ruled in
-    let fits : Fits (ask_for (question_in (g.C.Comparer.parts.phase c.self.inside.comparer))) c.args.reply = search rules in
+    let fits : Fits (ask_for (question_in (g.C.Comparer.parts.stage c.self.inside.comparer))) c.args.reply = search rules in
     let shown : Fits (shown_after g.C.Comparer.parts first kept old).ask c.args.reply = search rules in
     elim c.match-decided_by.branch [
       | in-None+in_ok-answer-in-None w ↦

@@ -1,9 +1,9 @@
 use Rattle.std.proofs.Common.{[], ◌∷◌, ◌++◌, ap, sym, ◌∙◌}
-use Rattle.board_steps.specs.Boards.{plain, state_of}
-use Rattle.board_steps.specs.Phases.{phase_of}
+use Rattle.board_steps.specs.Boards.{plain_board, state_of}
+use Rattle.board_steps.specs.BoardVerdicts.{board_verdict_of}
 use Rattle.board_steps.proofs.KeptBoards.{step-reply}
 use Rattle.pool_core.proofs.DecidedAsks.{verdict-made, wished-after}
-use Rattle.pool_core.proofs.PresentPhases.{fits-now, wished-now, wishes-runnable}
+use Rattle.pool_core.proofs.PresentVerdicts.{fits-now, wished-now, wishes-runnable}
 use Rattle.pool_core.proofs.board.Board.answer.Goals as goal
 
 pub wishes_after-requires-clause-fits : goal.wishes_after-requires-clause-fits
@@ -29,7 +29,7 @@ invariant_of-self-2 g c =
     let r = c.args.reply in
     let after = g.P.Search.replies_of i.search ++ r ∷ [] in
     let items = c.in_ok-wishes.wishes.items in
-    let stands = ap (λ x. phase_of g.P.Search.shown (plain x)) c.self.view_is ∙ c.requires.stands in
+    let stands = ap (λ x. board_verdict_of g.P.Search.shown (plain_board x)) c.self.view_is ∙ c.requires.stands in
     let wished = wished-now g.P.Search.shown b rules after items c.others-others.result c.self.invariant.rules_same c.self.invariant.board.limits c.others-others.ensures c.in_ok-wishes.ensures.value in
     let runnable = wishes-runnable rules i.problem.rules items c.self.invariant.rules_same c.in_ok-wishes.ensures.runnable in
     let step = step-reply g.P.Search.shown g.P.Search.plain g.S.Spawner.truth g.met.P.Search.follows b r items stands wished runnable c.self.invariant.board in
@@ -53,7 +53,7 @@ returns-clause-board g c =
     let r = c.args.reply in
     let after = g.P.Search.replies_of i.search ++ r ∷ [] in
     let items = c.in_ok-wishes.wishes.items in
-    let stands = ap (λ x. phase_of g.P.Search.shown (plain x)) c.self.view_is ∙ c.requires.stands in
+    let stands = ap (λ x. board_verdict_of g.P.Search.shown (plain_board x)) c.self.view_is ∙ c.requires.stands in
     let wished = wished-now g.P.Search.shown b rules after items c.others-others.result c.self.invariant.rules_same c.self.invariant.board.limits c.others-others.ensures c.in_ok-wishes.ensures.value in
     let runnable = wishes-runnable rules i.problem.rules items c.self.invariant.rules_same c.in_ok-wishes.ensures.runnable in
     let step = step-reply g.P.Search.shown g.P.Search.plain g.S.Spawner.truth g.met.P.Search.follows b r items stands wished runnable c.self.invariant.board in

@@ -1,6 +1,6 @@
 use Rattle.std.proofs.Common.{◌∙◌}
 use Rattle.run_cache.specs.declared.cell.Cell.{Cell}
-use Rattle.board_steps.specs.Boards.{plain, state_of}
+use Rattle.board_steps.specs.Boards.{plain_board, state_of}
 use Rattle.board_steps.specs.Tickets.{is_unwanted_beside}
 use Rattle.board_steps.proofs.KeptBoards.{step-marks}
 use Rattle.pool_core.proofs.MarkedBoards.{no-end, unwanted-beside, marked-as, count-as}
@@ -48,4 +48,4 @@ returns-clause-board g c =
     let seen = is_unwanted_beside wishes needed c.args.cutoff.0 in
     let unwanted = unwanted-beside shown c.args.self.now b (g.P.Search.rules_of i.search) wishes config c.args.place c.args.cutoff c.self.view_is c.self.invariant.rules_same c.requires
     c.as_slice-wishes.ensures.value c.asked_config-config.ensures in
-    rw (c.mark_beside.ensures.marked, ← c.self.view_is) ((step-marks shown g.P.Search.plain g.S.Spawner.truth b seen c.self.invariant.board).plain_is ∙ marked-as shown (plain b) seen unwanted)
+    rw (c.mark_beside.ensures.marked, ← c.self.view_is) ((step-marks shown g.P.Search.plain g.S.Spawner.truth b seen c.self.invariant.board).plain_is ∙ marked-as shown (plain_board b) seen unwanted)

@@ -1,9 +1,9 @@
 use Rattle.std.proofs.Common.{Some, None, sym, ◌∙◌}
-use Rattle.board_steps.specs.Boards.{plain}
+use Rattle.board_steps.specs.Boards.{plain_board}
 use Rattle.board_steps.specs.declared.answers.Taken.TheVariants as taken
 use Rattle.capping.specs.declared.verdicts.Verdict.TheVariants as verdict
 use Rattle.pool_core.proofs.Offers.{running-open, offered-asked, offered-ahead}
-use Rattle.pool_core.proofs.PresentPhases.{after-taken}
+use Rattle.pool_core.proofs.PresentVerdicts.{after-taken}
 use Rattle.pool_core.proofs.board.Board.take_needed.Goals as goal
 
 pub give-requires-clause-offered : goal.give-requires-clause-offered
@@ -23,7 +23,7 @@ returns-in-None-clause-answer g c =
     (sym c.has_ticket.ensures ∙ c.if-not-has_ticket.false) (sym c.in-None.is ∙ c.in_ok-free_wish.ensures.value))
 
 pub returns-in-None-clause-board : goal.returns-in-None-clause-board
-returns-in-None-clause-board g c = after-taken g.P.Search.shown (plain c.args.self.now) taken.Idle (returns-in-None-clause-answer g c)
+returns-in-None-clause-board g c = after-taken g.P.Search.shown (plain_board c.args.self.now) taken.Idle (returns-in-None-clause-answer g c)
 
 pub give-requires-in-Some-clause-offered : goal.give-requires-in-Some-clause-offered
 give-requires-in-Some-clause-offered g c =

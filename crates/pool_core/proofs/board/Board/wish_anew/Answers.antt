@@ -1,12 +1,12 @@
 use Rattle.std.proofs.Common.{ap, sym, ◌∙◌}
 use Rattle.std.specs.Cmp.Lexicographic.{pointwise}
-use Rattle.board_steps.specs.Boards.{plain, state_of}
-use Rattle.board_steps.specs.Phases.{phase_of}
+use Rattle.board_steps.specs.Boards.{plain_board, state_of}
+use Rattle.board_steps.specs.BoardVerdicts.{board_verdict_of}
 use Rattle.board_steps.specs.Steps.{same_wish}
 use Rattle.board_steps.proofs.KeptBoards.{step-wishes}
 use Rattle.board_steps.proofs.SameItself.{same_wishes-itself}
 use Rattle.pool_core.proofs.DecidedAsks.{decided-need}
-use Rattle.pool_core.proofs.PresentPhases.{wished-same, wishes-runnable, wishes-stay}
+use Rattle.pool_core.proofs.PresentVerdicts.{wished-same, wishes-runnable, wishes-stay}
 use Rattle.pool_core.proofs.board.Board.wish_anew.Goals as goal
 
 pub returns-then-same_wishes-clause-board : goal.returns-then-same_wishes-clause-board
@@ -41,7 +41,7 @@ invariant_of-self-2 g c =
     let items = c.in_ok-wishes.wishes.items in
     let wished = wished-same g.P.Search.shown b rules items c.others-others.result c.self.invariant.rules_same c.self.invariant.board.limits c.others-others.ensures c.in_ok-wishes.ensures.value in
     let compared = c.same_wishes.ensures ∙ (λ j. pointwise same_wish (c.deref.ensures.value j) (c.deref-2.ensures.value j)) in
-    let stands = ap (λ x. phase_of g.P.Search.shown (plain x)) c.self.view_is ∙ c.requires.stands in
+    let stands = ap (λ x. board_verdict_of g.P.Search.shown (plain_board x)) c.self.view_is ∙ c.requires.stands in
     let runnable = wishes-runnable rules i.problem.rules items c.self.invariant.rules_same c.in_ok-wishes.ensures.runnable in
     let step = step-wishes g.P.Search.shown g.P.Search.plain g.S.Spawner.truth b c.args.place c.args.cutoff items stands wished (sym compared ∙ c.if-same_wishes.false) runnable c.self.invariant.board in
     record {
@@ -58,7 +58,7 @@ returns-clause-board g c =
     let items = c.in_ok-wishes.wishes.items in
     let wished = wished-same g.P.Search.shown b rules items c.others-others.result c.self.invariant.rules_same c.self.invariant.board.limits c.others-others.ensures c.in_ok-wishes.ensures.value in
     let compared = c.same_wishes.ensures ∙ (λ j. pointwise same_wish (c.deref.ensures.value j) (c.deref-2.ensures.value j)) in
-    let stands = ap (λ x. phase_of g.P.Search.shown (plain x)) c.self.view_is ∙ c.requires.stands in
+    let stands = ap (λ x. board_verdict_of g.P.Search.shown (plain_board x)) c.self.view_is ∙ c.requires.stands in
     let runnable = wishes-runnable rules i.problem.rules items c.self.invariant.rules_same c.in_ok-wishes.ensures.runnable in
     let step = step-wishes g.P.Search.shown g.P.Search.plain g.S.Spawner.truth b c.args.place c.args.cutoff items stands wished (sym compared ∙ c.if-same_wishes.false) runnable c.self.invariant.board in
     rw (c.advance.ensures, c.make_room.ensures.same, ← c.self.view_is) step.plain_is

@@ -11,8 +11,8 @@ use Rattle.capping.specs.declared.verdicts.Verdict.TheVariants as verdict
 use Rattle.capping.specs.Verdicts.{verdict_of}
 use Rattle.predictor.specs.declared.wish.Wish.{Wish}
 use Rattle.predictor.specs.Wishes.{wishes_of}
-use Rattle.board_steps.specs.declared.answers.Phase.{Phase}
-use Rattle.board_steps.specs.declared.answers.Phase.TheVariants.{Stopped, Aborted, Open}
+use Rattle.board_steps.specs.declared.answers.BoardVerdict.{BoardVerdict}
+use Rattle.board_steps.specs.declared.answers.BoardVerdict.TheVariants.{Stopped, Aborted, Open}
 use Rattle.board_steps.specs.Boards.{PlainBoard}
 
 -- the configuration that an ask is of; none at the end
@@ -39,30 +39,16 @@ module _ (shown : Rules → List Reply → View) where
   wishes_on b = wishes_of (shown b.problem.rules) b.problem.rules.limits b.known b.replies (b.problem.rules.workers - 1)
 
   -- where a board stands that isn't stopped
-  abbrev pub phase_by : PlainBoard → Option Cell → Phase
-  phase_by b None = Open (verdict_on b)
-  phase_by b (Some cell) = Aborted
+  abbrev pub board_verdict_by : PlainBoard → Option Cell → BoardVerdict
+  board_verdict_by b None = Open (verdict_on b)
+  board_verdict_by b (Some cell) = Aborted
 
   -- where a board stands
-  unfoldable pub phase_of : PlainBoard → Phase
-  phase_of b = if b.stopped then Stopped else phase_by b b.aborted
-
--- the fact of the reply that a verdict gives
-abbrev pub IfReplies : Verdict → (Reply → Type 0) → Type 0
-IfReplies (verdict.Reply r) P = P r
-IfReplies (verdict.Need place cutoff) P = Unit {0}
-IfReplies (verdict.Aborted place) P = Unit {0}
-IfReplies verdict.Ended P = Unit {0}
-
--- the fact of the place and the cutoff that a verdict needs
-abbrev pub IfNeeds : Verdict → (ℕ → ℕ → Type 0) → Type 0
-IfNeeds (verdict.Reply r) P = Unit {0}
-IfNeeds (verdict.Need place cutoff) P = P place cutoff.0
-IfNeeds (verdict.Aborted place) P = Unit {0}
-IfNeeds verdict.Ended P = Unit {0}
+  unfoldable pub board_verdict_of : PlainBoard → BoardVerdict
+  board_verdict_of b = if b.stopped then Stopped else board_verdict_by b b.aborted
 
 -- the fact of the verdict of an open board
-abbrev pub IfOpen : Phase → (Verdict → Type 0) → Type 0
+abbrev pub IfOpen : BoardVerdict → (Verdict → Type 0) → Type 0
 IfOpen Stopped P = Unit {0}
 IfOpen Aborted P = Unit {0}
 IfOpen (Open v) P = P v
