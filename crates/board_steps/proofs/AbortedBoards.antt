@@ -37,7 +37,7 @@ use Rattle.board_steps.specs.Problem.{Problem}
 use Rattle.board_steps.specs.Replays.{replay}
 use Rattle.board_steps.specs.Steps.{same_wish, with_ticket, known_from, with_answer, with_loss, with_kill, with_reply, with_wishes, with_abort, marked_board, stopped_board, resumed_board}
 use Rattle.board_steps.specs.Tickets.{mark_event, mark_events}
-use Rattle.board_steps.specs.AbortedCells.{IsNoAdvance, CameTo, IsAbortedAt, IsAborting, IsFirstAborting}
+use Rattle.board_steps.specs.BoardAborts.{IsNoAdvance, CameTo, IsAbortedAt, IsAborting, IsFirstAborting}
 use Rattle.board_steps.proofs.GivenTickets.{verdict-open}
 use Rattle.board_steps.proofs.Replayed.{IsReplayed}
 

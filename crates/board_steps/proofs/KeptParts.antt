@@ -15,7 +15,7 @@ use Rattle.board_steps.specs.declared.answers.BoardVerdict.TheVariants as board_
 use Rattle.board_steps.specs.declared.answers.Taken.TheVariants as taken
 use Rattle.board_steps.specs.declared.tickets.LiveTicket.{LiveTicket}
 use Rattle.board_steps.specs.declared.tickets.Ticket.{Ticket}
-use Rattle.board_steps.specs.AbortedCells.{IsAborting}
+use Rattle.board_steps.specs.BoardAborts.{IsAborting}
 use Rattle.board_steps.specs.AskedTickets.{AreAsked}
 use Rattle.board_steps.specs.Boards.{PlainBoard, opening}
 use Rattle.board_steps.specs.JournalRuns.{AreTaken}

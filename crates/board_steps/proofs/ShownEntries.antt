@@ -12,8 +12,8 @@ use Rattle.wrapper_lines.specs.declared.runs.Key.{Key}
 use Rattle.uncapped.specs.Procedure.{Sums, Question, Finished, Aborted}
 use Rattle.uncapped.specs.Totals.{total_cost, quiet}
 use Rattle.uncapped.specs.Uncapped.{Run}
-use Rattle.ils_face.specs.Aborts
-use Rattle.ils_face.specs.Aborts.{entries_of, MeetsAborts}
+use Rattle.ils_face.specs.ProcedureAborts
+use Rattle.ils_face.specs.ProcedureAborts.{entries_of, MeetsAborts}
 use Rattle.ils_face.specs.declared.asks.Ask.{Ask}
 use Rattle.ils_face.specs.declared.asks.Ask.TheVariants.{Full, Versus, End}
 use Rattle.ils_face.specs.declared.asks.Reply.{Reply}

@@ -6,7 +6,7 @@ use Rattle.objective.specs.declared.Outcome.{Outcome}
 use Rattle.wrapper_lines.specs.declared.runs.Key.{Key}
 use Rattle.uncapped.specs.Totals.{quiet}
 use Rattle.uncapped.specs.Uncapped.{Run}
-use Rattle.ils_face.specs.Aborts.{MeetsAborts, entries_of}
+use Rattle.ils_face.specs.ProcedureAborts.{MeetsAborts, entries_of}
 use Rattle.ils_face.specs.declared.asks.Ask.TheVariants.{End}
 use Rattle.ils_face.specs.declared.asks.Reply.{Reply}
 use Rattle.ils_face.specs.Follows.{Follows, sums_under}
@@ -15,7 +15,7 @@ use Rattle.ils_face.specs.Steady.{IsSteady, Grows}
 use Rattle.ils_face.specs.Traces.{question_of}
 use Rattle.ils_face.specs.Views.{View}
 use Rattle.run_cache.specs.declared.cell.Cell.{Cell}
-use Rattle.board_steps.specs.AbortedCells.{IsFirstAborting}
+use Rattle.board_steps.specs.BoardAborts.{IsFirstAborting}
 use Rattle.board_steps.specs.BoardInvariant.{BoardInvariant}
 use Rattle.board_steps.specs.Boards.{BoardState, plain_board}
 use Rattle.board_steps.specs.ProblemRuns.{table_of}

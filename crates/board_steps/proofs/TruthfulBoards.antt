@@ -6,7 +6,7 @@ use Rattle.objective.specs.declared.Outcome.{Outcome}
 use Rattle.wrapper_lines.specs.declared.runs.Key.{Key}
 use Rattle.uncapped.specs.Totals.{quiet}
 use Rattle.uncapped.specs.Uncapped.{Run}
-use Rattle.ils_face.specs.Aborts.{MeetsAborts}
+use Rattle.ils_face.specs.ProcedureAborts.{MeetsAborts}
 use Rattle.ils_face.specs.declared.asks.Reply.{Reply}
 use Rattle.ils_face.specs.Follows.{Follows, sums_under}
 use Rattle.ils_face.specs.Rules.{Rules, AreRules}
@@ -18,7 +18,7 @@ use Rattle.board_steps.specs.declared.answers.BoardVerdict.TheVariants as board_
 use Rattle.board_steps.specs.declared.answers.Taken.TheVariants as taken
 use Rattle.board_steps.specs.declared.tickets.LiveTicket.{LiveTicket}
 use Rattle.board_steps.specs.declared.tickets.Ticket.{Ticket}
-use Rattle.board_steps.specs.AbortedCells.{IsAborting}
+use Rattle.board_steps.specs.BoardAborts.{IsAborting}
 use Rattle.board_steps.specs.AgreeingBoards.{IsAgreeing}
 use Rattle.board_steps.specs.Boards.{PlainBoard, opening}
 use Rattle.board_steps.specs.DueTickets.{AreDueTickets}

@@ -7,7 +7,7 @@ use Rattle.uncapped.specs.Uncapped.{Run}
 use Rattle.ils_face.specs.declared.asks.Reply.{Reply}
 use Rattle.ils_face.specs.Rules.{Rules, AreRules}
 use Rattle.ils_face.specs.Views.{View}
-use Rattle.board_steps.specs.AbortedCells.{IsAborting}
+use Rattle.board_steps.specs.BoardAborts.{IsAborting}
 use Rattle.board_steps.specs.AgreeingBoards.{IsAgreeing}
 use Rattle.board_steps.specs.AskedTickets.{AreAsked}
 use Rattle.board_steps.specs.Boards.{BoardState, plain_board}

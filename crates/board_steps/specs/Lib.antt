@@ -9,7 +9,7 @@ pub mod Replays
 pub mod Numbering
 pub mod JournalRuns
 pub mod AskedTickets
-pub mod AbortedCells
+pub mod BoardAborts
 pub mod RangedBoards
 pub mod RecordedRuns
 pub mod SummedReplies

@@ -5,7 +5,7 @@ use Rattle.objective.specs.declared.Outcome.{Outcome}
 use Rattle.wrapper_lines.specs.declared.runs.Key.{Key}
 use Rattle.uncapped.specs.Procedure.{Sums, Question, Finished, Aborted}
 use Rattle.uncapped.specs.Uncapped.{Run}
-use Rattle.ils_face.specs.Aborts.{entries_of}
+use Rattle.ils_face.specs.ProcedureAborts.{entries_of}
 use Rattle.ils_face.specs.declared.asks.Reply.{Reply}
 use Rattle.ils_face.specs.Replies.{reply_to}
 use Rattle.ils_face.specs.Rules.{Rules}

@@ -14,8 +14,8 @@ use Rattle.ils_face.specs.Rules.{Rules}
 use Rattle.ils_face.specs.Views.{View}
 use Rattle.ils_face.specs.Follows.{Follows, StopsShort, answer_count, sums_under}
 use Rattle.ils_face.specs.Traces.{question_of, IsReplyBy, IsUnknown}
-use Rattle.ils_face.specs.Aborts
-use Rattle.ils_face.specs.Aborts.{entries_of, AreKnown, IsFirstUnknown, SameRun, IsCutAt, MeetsAborts}
+use Rattle.ils_face.specs.ProcedureAborts
+use Rattle.ils_face.specs.ProcedureAborts.{entries_of, AreKnown, IsFirstUnknown, SameRun, IsCutAt, MeetsAborts}
 use Rattle.ils_face.specs.Traces.{IsTraced}
 use Rattle.ils_face.proofs.Traces.{question_of-ask_for, traced_first, traced_on, one_more}
 use Rattle.ils_face.proofs.Traces.{is_aborted, is_finished, past_last}

@@ -12,7 +12,7 @@ use Rattle.ils_face.specs.Rules.{Rules}
 use Rattle.ils_face.specs.Views.{View, AreFitting}
 use Rattle.ils_face.specs.Steady.{Grows, IsSteady}
 use Rattle.ils_face.specs.Follows.{Follows, answer_count, sums_under}
-use Rattle.ils_face.specs.Aborts.{entries_of}
+use Rattle.ils_face.specs.ProcedureAborts.{entries_of}
 use Rattle.ils_face.specs.Traces.{IsTraced}
 use Rattle.ils_face.proofs.Traces.{one_more, past_last}
 use Rattle.ils_face.proofs.QuietTables.{all_quiet, quiet_total}

@@ -6,4 +6,4 @@ pub mod Trajectories
 pub mod Steady
 pub mod Follows
 pub mod Traces
-pub mod Aborts
+pub mod ProcedureAborts

@@ -10,7 +10,7 @@ ghost use Rattle.ils_face.specs.Replies.{Fits};
 ghost use Rattle.ils_face.specs.Views.{View, AreFitting};
 ghost use Rattle.ils_face.specs.Steady.{IsSteady};
 ghost use Rattle.ils_face.specs.Follows.{Follows, GoesThrough, sums_under};
-ghost use Rattle.ils_face.specs.Aborts.{MeetsAborts};
+ghost use Rattle.ils_face.specs.ProcedureAborts.{MeetsAborts};
 
 use crate::asks::{Ask, Entry, Reply};
 use crate::rules::Rules;

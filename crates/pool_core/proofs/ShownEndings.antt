@@ -5,7 +5,7 @@ use Rattle.objective.specs.declared.Outcome.{Outcome}
 use Rattle.wrapper_lines.specs.declared.runs.Key.{Key}
 use Rattle.uncapped.specs.Totals.{quiet}
 use Rattle.uncapped.specs.Uncapped.{Run}
-use Rattle.ils_face.specs.Aborts.{MeetsAborts}
+use Rattle.ils_face.specs.ProcedureAborts.{MeetsAborts}
 use Rattle.ils_face.specs.declared.asks.Reply.{Reply}
 use Rattle.ils_face.specs.Follows.{Follows, sums_under}
 use Rattle.ils_face.specs.Rules.{Rules, AreRules}

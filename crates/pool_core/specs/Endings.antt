@@ -1,7 +1,7 @@
 -- How a search is at its end.
 use Rattle.std.specs.Prelude.{◌≡◌, ◌≢◌, List, Some, None}
 use Rattle.uncapped.specs.Uncapped.{Run}
-use Rattle.ils_face.specs.Aborts.{entries_of}
+use Rattle.ils_face.specs.ProcedureAborts.{entries_of}
 use Rattle.ils_face.specs.declared.asks.Ask.TheVariants.{End}
 use Rattle.ils_face.specs.declared.asks.Reply.{Reply}
 use Rattle.ils_face.specs.Rules.{Rules}

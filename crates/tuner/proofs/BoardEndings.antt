@@ -8,7 +8,7 @@ use Rattle.outside.specs.ToldStates.{SinkTold}
 use Rattle.uncapped.specs.Procedure.{Question}
 use Rattle.uncapped.specs.Uncapped.{Run}
 use Rattle.uncapped.proofs.KnownCosts.{finishes}
-use Rattle.ils_face.specs.Aborts.{entries_of}
+use Rattle.ils_face.specs.ProcedureAborts.{entries_of}
 use Rattle.ils_face.specs.declared.asks.Reply.{Reply}
 use Rattle.ils_face.specs.Follows.{Follows, sums_under}
 use Rattle.ils_face.specs.Replies.{entries_before}
@@ -32,7 +32,7 @@ use Rattle.board_steps.proofs.RepliedAsks.{present-ask}
 use Rattle.board_steps.proofs.ShownEntries.{earlier-entries-shown}
 use Rattle.board_steps.proofs.ToldEntries.{told-abort, told-entries}
 use Rattle.pool_run.specs.Drives.{IsAskedTicket, IsDueTicket}
-use Rattle.tuner.specs.AbortedAsks.{IsCell, AbortsAt, IsAbort}
+use Rattle.tuner.specs.AbortCauses.{IsCell, AbortsAt, IsAbort}
 use Rattle.tuner.specs.Calls.{Call}
 use Rattle.tuner.specs.CallStarts.{StartsOf}
 use Rattle.tuner.specs.Lines.{lines_with, all_lines, aborted_line, child_fault_line, no_memory_line}

@@ -8,7 +8,7 @@ use Rattle.wrapper_lines.specs.declared.runs.Key.{Key}
 use Rattle.outside.specs.ToldStates.{SinkTold}
 use Rattle.uncapped.specs.Procedure.{Finished}
 use Rattle.uncapped.specs.Uncapped.{Run}
-use Rattle.ils_face.specs.Aborts.{entries_of}
+use Rattle.ils_face.specs.ProcedureAborts.{entries_of}
 use Rattle.ils_face.specs.declared.asks.Ask.{Ask}
 use Rattle.ils_face.specs.declared.asks.Ask.TheVariants.{Full, Versus, End}
 use Rattle.ils_face.specs.Rules.{Rules}
@@ -17,13 +17,13 @@ use Rattle.ils_face.specs.Traces.{IsFinal, question_of}
 use Rattle.ils_face.specs.Views.{View}
 use Rattle.run_cache.specs.declared.cell.Cell.{Cell}
 use Rattle.capping.specs.Decisions.{place_count}
-use Rattle.board_steps.specs.AbortedCells.{IsFirstAborting}
+use Rattle.board_steps.specs.BoardAborts.{IsFirstAborting}
 use Rattle.board_steps.specs.BoardVerdicts.{config_of}
 use Rattle.board_steps.specs.Problem.{Problem}
 use Rattle.board_steps.specs.ProblemRuns.{table_of}
 use Rattle.board_steps.specs.RepliedAsks.{quiet_by}
 use Rattle.board_steps.specs.ShownEntries.{true_by, ShowsAll, ShowsAborted}
-use Rattle.tuner.specs.AbortedAsks.{IsCell, AbortsAt}
+use Rattle.tuner.specs.AbortCauses.{IsCell, AbortsAt}
 use Rattle.tuner.specs.Calls.{Call}
 use Rattle.tuner.specs.CallStarts.{StartsOf}
 use Rattle.tuner.specs.Causes.{CauseOf}

@@ -10,7 +10,7 @@ use Rattle.run_cache.specs.declared.cell.Cell.{Cell}
 use Rattle.board_steps.specs.ProblemRuns.{table_of}
 use Rattle.board_steps.specs.declared.tickets.Ticket.{Ticket}
 use Rattle.pool_run.specs.Seats.{SeatState}
-use Rattle.tuner.specs.AbortedAsks.{IsAbort}
+use Rattle.tuner.specs.AbortCauses.{IsAbort}
 use Rattle.tuner.specs.Calls.{Call, call_of, IsMisused, IsCalled, StatesTask, IsSeated}
 use Rattle.tuner.specs.KeptFaults.{HasFault}
 use Rattle.tuner.specs.Readings.{Reads, Bad, problem_of, file_name}

@@ -7,7 +7,7 @@ use Rattle.outside.specs.ToldStates.{FilesTold, SinkTold}
 use Rattle.outside.specs.WholePieces.{Took, TookPartOf}
 use Rattle.uncapped.specs.Procedure.{Incumbent, Finished, Aborted}
 use Rattle.uncapped.specs.Totals.{NeverAborts}
-use Rattle.ils_face.specs.Aborts.{entries_of}
+use Rattle.ils_face.specs.ProcedureAborts.{entries_of}
 use Rattle.ils_face.specs.Steady.{Grows}
 use Rattle.run_cache.specs.declared.cell.Cell.{Cell}
 use Rattle.board_steps.specs.ProblemRuns.{table_of}

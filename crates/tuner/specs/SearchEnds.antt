@@ -5,7 +5,7 @@ use Rattle.wrapper_lines.specs.declared.runs.Key.{Key}
 use Rattle.param_space.specs.Configurations.{IsConfig}
 use Rattle.uncapped.specs.Procedure.{Incumbent, Finished, Aborted}
 use Rattle.uncapped.specs.Uncapped.{Run}
-use Rattle.ils_face.specs.Aborts.{entries_of}
+use Rattle.ils_face.specs.ProcedureAborts.{entries_of}
 use Rattle.ils_face.specs.Rules.{Rules}
 use Rattle.ils_face.specs.Steady.{Grows}
 use Rattle.ils_face.specs.Trajectories.{IsTrajectory, newest}

@@ -8,7 +8,7 @@ use Rattle.uncapped.specs.Searching.{search_after}
 use Rattle.uncapped.specs.Uncapped.{Run, run_after, at_first}
 use Rattle.ils_face.specs.Replies.{ask_for, reply_count, entries_before}
 use Rattle.ils_face.specs.Follows.{Follows, GoesThrough, answer_count, sums_under}
-use Rattle.ils_face.specs.Aborts.{MeetsAborts}
+use Rattle.ils_face.specs.ProcedureAborts.{MeetsAborts}
 use Rattle.ils_face.proofs.QuietTables.{quiet-through}
 use Rattle.ils_face.proofs.FittingReplies.{reply_fits}
 use Rattle.ils_face.proofs.AbortedRuns.{aborts_met}
