@@ -18,11 +18,12 @@ use Rattle.pool_run.specs.Drives.{HasMade, IsLeft, DroveTo, is_over, has_ended}
 use Rattle.pool_run.specs.RunEnds.{RanTicket, ended_by, seat_after, stopped_for}
 use Rattle.pool_run.specs.Seats.{SeatState, last_of, fault_of, IsFault}
 use Rattle.pool_run.specs.Turns.{KeepsTickets, CameToEnd, RanShort}
-use Rattle.pool_run.specs.Works.{HasWorked, IsAtWork}
+use Rattle.pool_run.specs.Works.{HasWorked}
 use Rattle.pool_run.proofs.DriveTurns.{over_by, over-same, over-plain, done-over, IsUnderWay, HasTaken}
 use Rattle.pool_run.proofs.MadeRuns.{made-still, made-answer, live-answered, live-lost, stopped-answered}
 use Rattle.pool_run.proofs.StartedRuns.{some-then, kept-by, since}
 use Rattle.pool_run.proofs.TurnSteps.{search-given_up, keeps-stop, none-live, stop-stops}
+use Rattle.pool_run.proofs.WorkedSeats.{IsAtWork}
 
 -- a board's fields, as plain data
 live-plain : (x : BoardState) → x.live ≡ (plain_board x).live
@@ -56,10 +57,10 @@ left-none driven.Memory seat no_fault = omega arith
 module _ (shown : Rules → List Reply → View) (program : Program) (board : BoardState) (seat : SeatState) where
   -- the answer of the ticket was recorded
   pub underway-on : (b c : BoardState) (s s' : SeatState) (t : Ticket) (answer : Answer) → HasTaken shown program board b seat s t
-      → s' ≡ seat_after (Ok answer) s s'.told → IsSomeAnd (last_of s.tickets) (RanTicket program (Ok answer) (plain_board b) (plain_board c) s.told s'.told)
+      → s' ≡ seat_after (Ok answer) s s'.told → IsSomeAnd (last_of s.tickets) (RanTicket program (Ok answer) b c s.told s'.told)
       → IsTrue s'.told.idle → s.told.faults ≤ s'.told.faults → IsUnderWay program board c seat s'
   underway-on b c s s' t answer has kept runs idle counts =
-      let ran = some-then (last_of s.tickets) (RanTicket program (Ok answer) (plain_board b) (plain_board c) s.told s'.told) t has.last runs in
+      let ran = some-then (last_of s.tickets) (RanTicket program (Ok answer) b c s.told s'.told) t has.last runs in
       let made = made-answer program (plain_board board) seat.told s.told seat.tickets s.tickets (plain_board b) t answer s'.told has.live has.taken ran.started has.made in
       let P : PlainBoard → Type 0 = λ x. HasMade program [] (plain_board board) x seat.told s'.told seat.tickets s.tickets in
       let Q : List Ticket → Type 0 = λ ts. HasMade program [] (plain_board board) (plain_board c) seat.told s'.told seat.tickets ts in
@@ -142,10 +143,10 @@ module _ (shown : Rules → List Reply → View) (program : Program) (board : Bo
 
   -- so the drive is at its end
   pub drove-lost : (b c : BoardState) (s s' : SeatState) (t : Ticket) (f : Fault) → HasTaken shown program board b seat s t
-      → s' ≡ seat_after (Err f) s s'.told → IsSomeAnd (last_of s.tickets) (RanTicket program (Err f) (plain_board b) (plain_board c) s.told s'.told)
+      → s' ≡ seat_after (Err f) s s'.told → IsSomeAnd (last_of s.tickets) (RanTicket program (Err f) b c s.told s'.told)
       → IsTrue s'.told.idle → s.told.faults ≤ s'.told.faults → DroveTo shown program (ended_by f) board c seat s'
   drove-lost b c s s' t fault.Failed has kept runs idle counts =
-      let ran = some-then (last_of s.tickets) (RanTicket program (Err fault.Failed) (plain_board b) (plain_board c) s.told s'.told) t has.last runs in
+      let ran = some-then (last_of s.tickets) (RanTicket program (Err fault.Failed) b c s.told s'.told) t has.last runs in
       let lost = has-lost b c s t has ran.after in
       let list : s'.tickets ≡ s.tickets = ap (λ x. x.tickets) kept in
       let last : last_of s'.tickets ≡ Some t = ap last_of list ∙ has.last in
@@ -171,7 +172,7 @@ module _ (shown : Rules → List Reply → View) (program : Program) (board : Bo
         short = λ e. absurd (cc);
       }
   drove-lost b c s s' t fault.Memory has kept runs idle counts =
-      let ran = some-then (last_of s.tickets) (RanTicket program (Err fault.Memory) (plain_board b) (plain_board c) s.told s'.told) t has.last runs in
+      let ran = some-then (last_of s.tickets) (RanTicket program (Err fault.Memory) b c s.told s'.told) t has.last runs in
       let lost = has-lost b c s t has ran.after in
       let P : List Ticket → Type 0 = λ ts. HasMade program (t ∷ []) (plain_board board) (plain_board c) seat.told s.told seat.tickets ts in
       record {

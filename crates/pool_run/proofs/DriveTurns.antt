@@ -37,11 +37,11 @@ use Rattle.pool_run.specs.Drives.{IsAskedTicket, HasMade, MayDrive, is_end, is_o
 use Rattle.pool_run.specs.Seats.{SeatState, last_of}
 use Rattle.pool_run.specs.Starts.{MayHaveStarted}
 use Rattle.pool_run.specs.Turns.{TookTicket, StayedIdle, is_done}
-use Rattle.pool_run.specs.Works.{HasWorked, IsAtWork}
+use Rattle.pool_run.specs.Works.{HasWorked}
 use Rattle.pool_run.proofs.MadeRuns.{alone, made-none, made-still, made-ticket}
 use Rattle.pool_run.proofs.StartedRuns.{took-last}
 use Rattle.pool_run.proofs.TurnSteps.{KeepsSearch, none-live}
-use Rattle.pool_run.proofs.WorkedSeats.{begins, worked-more}
+use Rattle.pool_run.proofs.WorkedSeats.{IsAtWork, begins, worked-more}
 
 -- ---- where a search is at its end
 

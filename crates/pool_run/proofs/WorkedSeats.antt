@@ -8,9 +8,16 @@ use Rattle.outside.specs.ToldStates.{SpawnerTold}
 use Rattle.board_steps.specs.declared.tickets.Ticket.{Ticket}
 use Rattle.pool_run.specs.Seats.{SeatState, fault_of, last_of, IsFault}
 use Rattle.pool_run.specs.Starts.{HasStarted, MayHaveStarted}
-use Rattle.pool_run.specs.Works.{Worked, tickets_of, runs_started, HasWorked, RanBeside, IsAtWork}
+use Rattle.pool_run.specs.Works.{Worked, tickets_of, runs_started, HasWorked, RanBeside}
 use Rattle.pool_run.specs.Turns.{TookOne}
 use Rattle.pool_run.proofs.StartedRuns.{started-none, started-then, took-last, some-then, kept-by, since}
+
+-- a seat that is at work and has kept no fault
+pub record IsAtWork (program : Program) (seat seat' : SeatState) : Type 0 where
+  pub worked : HasWorked program seat seat'
+  pub sound : seat'.failed ≡ false
+  pub counts : seat.told.faults ≤ seat'.told.faults
+  pub idle : IsTrue seat'.told.idle
 
 -- nothing was done
 pub worked-none : (program : Program) (seat seat' : SeatState) → seat'.tickets ≡ seat.tickets → seat'.told ≡ seat.told → HasWorked program seat seat'

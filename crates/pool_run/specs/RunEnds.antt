@@ -1,5 +1,5 @@
 -- What the end of a run makes of a board, of a seat and of a drive.
-use Rattle.std.specs.Prelude.{◌≡◌, ◌∷◌, [], OnOk, Some, true, Result, Ok, Err}
+use Rattle.std.specs.Prelude.{◌≡◌, ◌∷◌, [], IsSomeAnd, OnOk, Some, true, Result, Ok, Err}
 use Rattle.objective.specs.declared.Answer.{Answer}
 use Rattle.wrapper_lines.specs.declared.runs.Program.{Program}
 use Rattle.outside.specs.Changes.{has_failed}
@@ -10,11 +10,11 @@ use Rattle.outside.specs.ToldStates.{SpawnerTold}
 use Rattle.board_steps.specs.declared.tickets.Kind.{Kind}
 use Rattle.board_steps.specs.declared.tickets.Kind.TheVariants.{Asked, Ahead}
 use Rattle.board_steps.specs.declared.tickets.Ticket.{Ticket}
-use Rattle.board_steps.specs.Boards.{PlainBoard}
+use Rattle.board_steps.specs.Boards.{BoardState, PlainBoard, plain_board}
 use Rattle.board_steps.specs.Steps.{after_lost, after_record, after_stop}
 use Rattle.pool_run.specs.declared.driving.Driven.{Driven}
 use Rattle.pool_run.specs.declared.driving.Driven.TheVariants as driven
-use Rattle.pool_run.specs.Seats.{SeatState, with_fault}
+use Rattle.pool_run.specs.Seats.{SeatState, last_of, with_fault}
 use Rattle.pool_run.specs.Starts.{HasStarted, MayHaveStarted}
 
 -- a board that lost a ticket of this kind: it is stopped where the ticket was asked for
@@ -38,9 +38,14 @@ ended_by fault.Failed = driven.Fault
 ended_by fault.Memory = driven.Memory
 
 -- the run of a ticket was made and ended so: no other child was started, and with an answer its own was
-pub record RanTicket (program : Program) (end : Result Answer Fault) (board board' : PlainBoard) (told told' : SpawnerTold) (t : Ticket) : Type 0 where
-  pub after : board' ≡ board_after end board t
+pub record RanTicket (program : Program) (end : Result Answer Fault) (board board' : BoardState)
+    (told told' : SpawnerTold) (t : Ticket) : Type 0 where
+  pub after : plain_board board' ≡ board_after end (plain_board board) t
   pub started : OnOk end (HasStarted program told told' (t.run ∷ []))
   pub may : MayHaveStarted program told told' t.run
   pub failed : has_failed end ≡ true → told'.failed_run ≡ Some t.run
   pub rose : has_failed end ≡ true → Rose told.faults told'.faults
+
+-- the run of a seat's last ticket was made and ended so
+abbrev pub RanLast : Program → Result Answer Fault → BoardState → BoardState → SeatState → SeatState → Type 0
+RanLast program end board board' seat seat' = IsSomeAnd (last_of seat.tickets) (RanTicket program end board board' seat.told seat'.told)

@@ -15,7 +15,11 @@ pub record HasStarted (program : Program) (before after : SpawnerTold) (runs : L
   pub words : after.started ≡ told_more before.started (map (words_of program) runs)
   pub folders : after.folders ≡ told_more before.folders (map (λ run. program.dir) runs)
 
+-- the run alone where its child was started, else none
+abbrev pub run_if : Bool → Run → List Run
+run_if has run = if has then run ∷ [] else []
+
 -- the child of a run was started, or none
 pub record MayHaveStarted (program : Program) (before after : SpawnerTold) (run : Run) : Type 0 where
   pub has : Bool
-  pub runs : HasStarted program before after (if has then run ∷ [] else [])
+  pub runs : HasStarted program before after (run_if has run)

@@ -4,7 +4,7 @@ use Rattle.ils_face.specs.declared.asks.Reply.{Reply}
 use Rattle.ils_face.specs.Rules.{Rules}
 use Rattle.ils_face.specs.Views.{View}
 use Rattle.capping.specs.declared.verdicts.Verdict.TheVariants as verdict
-use Rattle.board_steps.specs.Boards.{PlainBoard}
+use Rattle.board_steps.specs.Boards.{BoardState, PlainBoard, plain_board}
 use Rattle.board_steps.specs.declared.answers.BoardVerdict.{BoardVerdict}
 use Rattle.board_steps.specs.declared.answers.BoardVerdict.TheVariants as board_verdict
 use Rattle.board_steps.specs.declared.answers.Taken.TheVariants as taken
@@ -15,8 +15,8 @@ use Rattle.board_steps.specs.Numbering.{tickets_of}
 use Rattle.board_steps.specs.BoardVerdicts.{board_verdict_of}
 use Rattle.board_steps.specs.Steps.{taken_on, with_ticket}
 use Rattle.pool_run.specs.Seats.{SeatState}
-use Rattle.pool_run.specs.declared.turns.Turn.{Turn}
-use Rattle.pool_run.specs.declared.turns.Turn.TheVariants as turn
+use Rattle.pool_run.specs.declared.turns.Next.{Next}
+use Rattle.pool_run.specs.declared.turns.Next.TheVariants as next
 
 -- the event took a ticket
 abbrev pub is_take : Event → Bool
@@ -98,8 +98,8 @@ module _ (shown : Rules → List Reply → View) where
     pub noted : seat' ≡ record seat { short = true }
 
   -- what a turn made of a board and of a seat
-  abbrev pub HasTurned : Turn → PlainBoard → PlainBoard → SeatState → SeatState → Type 0
-  HasTurned turn.Run board board' seat seat' = TookTicket board board' seat seat'
-  HasTurned turn.Idle board board' seat seat' = StayedIdle board board' seat seat'
-  HasTurned turn.Over board board' seat seat' = CameToEnd board board' seat seat'
-  HasTurned turn.Short board board' seat seat' = RanShort board board' seat seat'
+  abbrev pub HasTurned : Next → BoardState → BoardState → SeatState → SeatState → Type 0
+  HasTurned next.Run board board' seat seat' = TookTicket (plain_board board) (plain_board board') seat seat'
+  HasTurned next.Idle board board' seat seat' = StayedIdle (plain_board board) (plain_board board') seat seat'
+  HasTurned next.Over board board' seat seat' = CameToEnd (plain_board board) (plain_board board') seat seat'
+  HasTurned next.Short board board' seat seat' = RanShort (plain_board board) (plain_board board') seat seat'

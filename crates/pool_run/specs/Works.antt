@@ -1,13 +1,13 @@
 -- What a seat does beside other seats, and what it started.
-use Rattle.std.specs.Prelude.{◌≡◌, ◌≤◌, ◌++◌, Bool, true, false, List, filter, map, IsTrue}
+use Rattle.std.specs.Prelude.{◌≡◌, ◌++◌, Bool, true, false, List, filter, map}
 use Rattle.wrapper_lines.specs.declared.runs.Program.{Program}
 use Rattle.wrapper_lines.specs.declared.runs.Run.{Run}
 use Rattle.board_steps.specs.declared.tickets.Ticket.{Ticket}
 use Rattle.pool_run.specs.Seats.{SeatState, IsFault}
 use Rattle.pool_run.specs.Starts.{HasStarted, MayHaveStarted}
 use Rattle.pool_run.specs.Turns.{TookOne}
-use Rattle.pool_run.specs.declared.turns.Turn.{Turn}
-use Rattle.pool_run.specs.declared.turns.Turn.TheVariants as turn
+use Rattle.pool_run.specs.declared.turns.Next.{Next}
+use Rattle.pool_run.specs.declared.turns.Next.TheVariants as next
 
 -- a ticket, and whether its child was started
 pub record Worked : Type 0 where
@@ -29,11 +29,11 @@ pub record HasWorked (program : Program) (seat seat' : SeatState) : Type 0 where
   pub started : HasStarted program seat.told seat'.told (runs_started worked)
 
 -- what a turn made of a seat
-abbrev pub SeatTurned : Turn → SeatState → SeatState → Type 0
-SeatTurned turn.Run seat seat' = TookOne seat seat'
-SeatTurned turn.Idle seat seat' = seat' ≡ seat
-SeatTurned turn.Over seat seat' = seat' ≡ seat
-SeatTurned turn.Short seat seat' = seat' ≡ record seat { short = true }
+abbrev pub SeatTurned : Next → SeatState → SeatState → Type 0
+SeatTurned next.Run seat seat' = TookOne seat seat'
+SeatTurned next.Idle seat seat' = seat' ≡ seat
+SeatTurned next.Over seat seat' = seat' ≡ seat
+SeatTurned next.Short seat seat' = seat' ≡ record seat { short = true }
 
 -- the run of a seat's last ticket was made beside other seats, and the seat goes on or not; where the seat kept no fault
 -- before, it keeps one only of this ticket
@@ -42,10 +42,3 @@ pub record RanBeside (program : Program) (goes_on : Bool) (seat seat' : SeatStat
   pub started : MayHaveStarted program seat.told seat'.told t.run
   pub same : goes_on ≡ true → seat'.failed ≡ seat.failed
   pub fault : seat.failed ≡ false → seat'.failed ≡ true → IsFault seat.told seat'.told t
-
--- a seat that is at work and has kept no fault
-pub record IsAtWork (program : Program) (seat seat' : SeatState) : Type 0 where
-  pub worked : HasWorked program seat seat'
-  pub sound : seat'.failed ≡ false
-  pub counts : seat.told.faults ≤ seat'.told.faults
-  pub idle : IsTrue seat'.told.idle

@@ -1,19 +1,18 @@
 //! One seat that drives a board to its end.
-ghost use Rattle.std.specs.Prelude.{◌≡◌, ◌≤◌, ◌↔◌, [], true, false, IsTrue, IfSome, IsSome, IsSomeAnd};
-ghost use Rattle.board_steps.specs.Boards.{plain_board};
+ghost use Rattle.std.specs.Prelude.{◌≡◌, ◌≤◌, ◌↔◌, [], true, false, IsTrue, IfSome, IsSome};
 ghost use Rattle.board_steps.specs.BoardInvariant.{BoardInvariant};
 ghost use Rattle.board_steps.specs.RepliedAsks.{quiet_by};
 ghost use Rattle.board_steps.specs.ShownEntries.{true_by};
 ghost use Rattle.pool_run.specs.Drives;
 ghost use Rattle.pool_run.specs.Drives.{DroveTo, HasDriven, MayDrive, ShowsAtEnd, has_ended};
 ghost use Rattle.pool_run.specs.RunEnds;
-ghost use Rattle.pool_run.specs.RunEnds.{RanTicket, seat_after};
+ghost use Rattle.pool_run.specs.RunEnds.{RanLast, RanTicket, seat_after};
 ghost use Rattle.pool_run.specs.Seats.{IsFault, fault_of, last_of};
 ghost use Rattle.pool_run.specs.Works.{HasWorked};
 
 use crate::runs::run_once;
 use crate::seat::Seat;
-use crate::turns::{Turn, give_up, next_turn};
+use crate::turns::{Next, give_up, next_turn};
 use ils_face::Search;
 use objective::Answer;
 use outside::{Fault, Spawner};
@@ -56,7 +55,8 @@ fn run_alone<R: Wait, P: Search, S: Spawner>(
     requires idle { IsTrue (S.told spawner.old).idle }
     ensures idle { IsTrue (S.told spawner.new).idle }
     ensures counts { (S.told spawner.old).faults ≤ (S.told spawner.new).faults }
-    ensures ran { RanTicket program.now result (plain_board board.old) (plain_board board.new) (S.told spawner.old) (S.told spawner.new) ticket.now }
+    ensures ran { let told = S.told spawner.old in
+        RanTicket program.now result board.old board.new told (S.told spawner.new) ticket.now }
 {
     match run_once(rt, alloc, spawner, program, &ticket.run) {
         Ok(answer) => {
@@ -83,7 +83,7 @@ fn run_last_alone<R: Wait, P: Search, S: Spawner>(
     ensures counts { seat.old.told.faults ≤ seat.new.told.faults }
     ensures invariant { BoardInvariant P.shown P.plain S.truth board.old }
     ensures seat { seat.new ≡ seat_after result seat.old seat.new.told }
-    ensures ran { IsSomeAnd (last_of seat.old.tickets) (RanTicket program.now result (plain_board board.old) (plain_board board.new) seat.old.told seat.new.told) }
+    ensures ran { RanLast program.now result board.old board.new seat.old seat.new }
 {
     board.is_board();
     let alloc = *seat.tickets.allocator();
@@ -124,13 +124,13 @@ fn turn_by_turn<R: Wait, P: Search, S: Spawner>(
     seat.forget();
     for _ in rt.forever() {
         match next_turn(rt, board, seat) {
-            Turn::Run => match run_last_alone(rt, board, program, seat) {
+            Next::Run => match run_last_alone(rt, board, program, seat) {
                 Ok(_) => {}
                 Err(fault) => return ended_by(fault),
             },
-            Turn::Idle => unreachable!(),
-            Turn::Over => return Driven::Ended,
-            Turn::Short => {
+            Next::Idle => unreachable!(),
+            Next::Over => return Driven::Ended,
+            Next::Short => {
                 if is_over(board) {
                     return Driven::Ended;
                 }
@@ -165,7 +165,9 @@ pub fn drive<R: Wait, P: Search, S: Spawner>(
     // It ends exactly where the board does, and then the procedure's entries are shown where a truth is told.
     ensures ended { has_ended result ≡ Drives.is_over P.shown board.new }
     ensures shows { let view = P.shown board.new.problem.rules board.new.replies in
-        result ≡ Driven.Ended → IsSome S.truth → ShowsAtEnd board.new.aborted view (true_by P.plain S.truth board.new.problem) (quiet_by P.plain S.truth board.new.problem) }
+        let run = true_by P.plain S.truth board.new.problem in
+        let whole = quiet_by P.plain S.truth board.new.problem in
+        result ≡ Driven.Ended → IsSome S.truth → ShowsAtEnd board.new.aborted view run whole }
 
     // Otherwise it is stopped. No ticket is live.
     ensures stopped { has_ended result ≡ false → board.new.stopped ≡ true }

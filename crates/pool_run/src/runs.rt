@@ -1,11 +1,11 @@
 //! One run: a child is started, waited for and read.
-ghost use Rattle.std.specs.Prelude.{◌≡◌, ◌≤◌, ◌∷◌, [], IsTrue, IfOk, OnOk, Some, is_ok, not, true, false, if◌then◌else◌};
+ghost use Rattle.std.specs.Prelude.{◌≡◌, ◌≤◌, ◌∷◌, [], IsTrue, IfOk, OnOk, Some, is_ok, not, true, false};
 ghost use Rattle.objective.specs.Costs.{seen, IsWithin};
 ghost use Rattle.objective.specs.declared.Outcome.{Outcome};
 ghost use Rattle.outside.specs.Changes.{has_failed};
 ghost use Rattle.outside.specs.Counts.{Rose};
 ghost use Rattle.wrapper_lines.specs.declared.runs.Key.{Key};
-ghost use Rattle.pool_run.specs.Starts.{HasStarted, MayHaveStarted};
+ghost use Rattle.pool_run.specs.Starts.{HasStarted, MayHaveStarted, run_if};
 
 use objective::Answer;
 use outside::{Fail, Fault, Poll, Spawner};
@@ -23,7 +23,7 @@ pub(crate) fn start_run<S: Spawner>(
     requires { IsTrue (S.told spawner.old).idle }
     ensures busy { (S.told spawner.new).idle ≡ not (is_ok result) }
     ensures running { OnOk result ((S.told spawner.new).current ≡ Some run.now) }
-    ensures started { HasStarted program.now (S.told spawner.old) (S.told spawner.new) (if is_ok result then run.now ∷ [] else []) }
+    ensures started { HasStarted program.now (S.told spawner.old) (S.told spawner.new) (run_if (is_ok result) run.now) }
     ensures failed_run { has_failed result ≡ true → (S.told spawner.new).failed_run ≡ Some run.now }
     ensures rose { has_failed result ≡ true → Rose (S.told spawner.old).faults (S.told spawner.new).faults }
     ensures counts { (S.told spawner.old).faults ≤ (S.told spawner.new).faults }

@@ -22,7 +22,8 @@ impl<S: Spawner> Model for Seat<S> {
 
     ghost Value = { SeatState };
 
-    ghost view = { λ seat. record { told = S.told seat.spawner; tickets = seat.tickets.items; failed = seat.failed; short = seat.short } };
+    ghost view = { λ seat.
+        record { told = S.told seat.spawner; tickets = seat.tickets.items; failed = seat.failed; short = seat.short } };
 }
 
 impl<S: Spawner> Seat<S> {

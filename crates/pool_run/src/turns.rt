@@ -14,7 +14,7 @@ use std::sync::Wait;
 
 /// What comes next for a seat.
 #[derive(Clone, Copy, Debug, PartialEq, Eq)]
-pub(crate) enum Turn {
+pub(crate) enum Next {
     /// Its last ticket is to be run.
     Run,
     /// The needed run is being made, and there is none to make ahead.
@@ -30,7 +30,8 @@ fn advance_on<R: Wait, P: Search, S: Spawner>(
     rt: &R,
     board: &mut Board<P, S>,
 ) -> Result<bool, Memory>
-    ensures advanced { IfOk result (λ needed. AdvancedTo P.shown needed (plain_board board.old) (plain_board board.new)) }
+    ensures advanced { IfOk result (λ needed.
+        AdvancedTo P.shown needed (plain_board board.old) (plain_board board.new)) }
     ensures keeps { OnErr result (KeepsGoing (plain_board board.old) (plain_board board.new)) }
 {
     for _ in rt.forever() {
@@ -49,7 +50,8 @@ fn advance_and_mark<R: Wait, P: Search, S: Spawner>(
     rt: &R,
     board: &mut Board<P, S>,
 ) -> Result<bool, Memory>
-    ensures advanced { IfOk result (λ needed. AdvancedTo P.shown needed (plain_board board.old) (plain_board board.new)) }
+    ensures advanced { IfOk result (λ needed.
+        AdvancedTo P.shown needed (plain_board board.old) (plain_board board.new)) }
     ensures keeps { OnErr result (KeepsGoing (plain_board board.old) (plain_board board.new)) }
 {
     let needed = advance_on(rt, board)?;
@@ -62,22 +64,22 @@ fn take_turn<R: Wait, P: Search, S: Spawner>(
     rt: &R,
     board: &mut Board<P, S>,
     seat: &mut Seat<S>,
-) -> Result<Turn, Memory>
-    ensures turned { IfOk result (λ turn. HasTurned P.shown turn (plain_board board.old) (plain_board board.new) seat.old seat.new) }
+) -> Result<Next, Memory>
+    ensures turned { IfOk result (λ next. HasTurned P.shown next board.old board.new seat.old seat.new) }
     ensures keeps { OnErr result (KeepsGoing (plain_board board.old) (plain_board board.new)) }
     ensures same { OnErr result (seat.new ≡ seat.old) }
 {
     let needed = advance_and_mark(rt, board)?;
     if !needed {
-        return Ok(Turn::Over);
+        return Ok(Next::Over);
     }
     seat.tickets.reserve(1)?;
     match board.take()? {
         Taken::Ticket(ticket) => {
             seat.tickets.push_reserved(ticket);
-            Ok(Turn::Run)
+            Ok(Next::Run)
         }
-        Taken::Idle => Ok(Turn::Idle),
+        Taken::Idle => Ok(Next::Idle),
         Taken::Decided | Taken::Ended | Taken::Stopped => unreachable!(),
     }
 }
@@ -88,16 +90,16 @@ pub(crate) fn next_turn<R: Wait, P: Search, S: Spawner>(
     rt: &R,
     board: &mut Board<P, S>,
     seat: &mut Seat<S>,
-) -> Turn
-    ensures turned { HasTurned P.shown result (plain_board board.old) (plain_board board.new) seat.old seat.new }
+) -> Next
+    ensures turned { HasTurned P.shown result board.old board.new seat.old seat.new }
     ensures told { seat.new.told ≡ seat.old.told }
 {
     match take_turn(rt, board, seat) {
-        Ok(turn) => turn,
+        Ok(next) => next,
         Err(_) => {
             seat.keep(Fault::Memory);
             board.stop();
-            Turn::Short
+            Next::Short
         }
     }
 }

@@ -5,7 +5,7 @@ ghost use Rattle.pool_run.specs.Works.{HasWorked, RanBeside, SeatTurned};
 
 use crate::children::{run_beside, tell_lost};
 use crate::seat::Seat;
-use crate::turns::{Turn, next_turn};
+use crate::turns::{Next, next_turn};
 use ils_face::Search;
 use outside::Spawner;
 use pool_core::{Board, Kind};
@@ -18,15 +18,15 @@ fn turn_and_ring<R: Wait, P: Search, S: Spawner>(
     board: &mut Board<P, S>,
     bell: &Condvar,
     seat: &mut Seat<S>,
-) -> Turn
+) -> Next
     ensures { SeatTurned result seat.old seat.new }
 {
     let events = board.journal().len();
-    let turn = next_turn(rt, board, seat);
+    let next = next_turn(rt, board, seat);
     if board.journal().len() != events {
         bell.notify_all();
     }
-    turn
+    next
 }
 
 /// The next turn of a seat under the lock. Where there is nothing to run, it waits for the bell from the
@@ -36,15 +36,15 @@ fn turn_beside<R: Wait, P: Search, S: Spawner>(
     board: &Mutex<Board<P, S>>,
     bell: &Condvar,
     seat: &mut Seat<S>,
-) -> Turn
+) -> Next
     ensures { SeatTurned result seat.old seat.new }
 {
     let mut locked = board.lock(rt);
-    let turn = turn_and_ring(rt, &mut *locked, bell, seat);
-    if turn == Turn::Idle {
+    let next = turn_and_ring(rt, &mut *locked, bell, seat);
+    if next == Next::Idle {
         drop(bell.wait(rt, locked));
     }
-    turn
+    next
 }
 
 /// Makes the run of the seat's last ticket. Where it can't be made and was asked for, the seat keeps that,
@@ -103,14 +103,14 @@ pub fn work<R: Wait, P: Search, S: Spawner>(
     seat.forget();
     for _ in rt.forever() {
         match turn_beside(rt, board, bell, seat) {
-            Turn::Run => {
+            Next::Run => {
                 if !run_last_beside(rt, board, bell, program, seat) {
                     return;
                 }
             }
-            Turn::Idle => {}
-            Turn::Over => return,
-            Turn::Short => return,
+            Next::Idle => {}
+            Next::Over => return,
+            Next::Short => return,
         }
     }
     unreachable!()

@@ -1,4 +1,4 @@
-use Rattle.pool_run.specs.Works.{IsAtWork}
+use Rattle.pool_run.proofs.WorkedSeats.{IsAtWork}
 use Rattle.pool_run.proofs.working.work.Given as goal
 
 -- what the seat did so far
