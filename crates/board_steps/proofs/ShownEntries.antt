@@ -38,9 +38,13 @@ use Rattle.board_steps.specs.Problem.{Problem}
 use Rattle.board_steps.specs.ProblemRuns.{table_of}
 use Rattle.board_steps.specs.AgreeingBoards.{IsAgreeing}
 use Rattle.board_steps.specs.RepliedAsks.{quiet_sums, quiet_by, AreReplied}
-use Rattle.board_steps.specs.ShownEntries.{true_by, IsAnsweredAt, ShowsAll, ShowsAborted}
+use Rattle.board_steps.specs.ShownEntries.{true_by, ShowsAll, ShowsAborted}
 use Rattle.ils_face.proofs.EarlierEntries.{shorter_first, fewer_before}
 use Rattle.board_steps.proofs.RepliedAsks.{quiet-follows, present-ask}
+
+-- the reply with this number is that of the total cost that the question asks for
+pub record IsAnsweredAt (sums : Sums) (replies : List Reply) (number : ℕ) (q : Question) : Type 0 where
+  pub reply : slice_get replies number ≡ Some (reply_to sums q)
 
 -- ---- runs that are cut at an ask
 
