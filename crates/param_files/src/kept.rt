@@ -28,10 +28,10 @@ impl Model for SpaceDraft {
     ghost Value = { KeptStatements.SpaceDraft };
 
     ghost view = { λ k. record {
-        params = k.params.items;
-        relations = k.relations.items;
-        conditions = k.conditions;
-        clauses = k.clauses;
+      params = k.params.items;
+      relations = k.relations.items;
+      conditions = k.conditions;
+      clauses = k.clauses;
     } };
 }
 

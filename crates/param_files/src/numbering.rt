@@ -28,10 +28,10 @@ impl Model for NumberedRelations {
     ghost Value = { Reading.NumberedRelations };
 
     ghost view = { λ n. record {
-        conditions = n.conditions.items;
-        condition_lines = n.condition_lines.items;
-        clauses = n.clauses.items;
-        clause_lines = n.clause_lines.items;
+      conditions = n.conditions.items;
+      condition_lines = n.condition_lines.items;
+      clauses = n.clauses.items;
+      clause_lines = n.clause_lines.items;
     } };
 }
 
