@@ -1,4 +1,4 @@
--- What holds of each board.
+-- What holds of each board, part by part, with and without a told truth.
 use Rattle.std.specs.Prelude.{◌≡◌, List, Option, All, IsSome, true}
 use Rattle.objective.specs.Costs.{Table}
 use Rattle.objective.specs.declared.Outcome.{Outcome}

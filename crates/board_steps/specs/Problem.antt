@@ -1,4 +1,4 @@
--- What is tuned.
+-- A problem as plain data: the rules of its search, and its pairs.
 use Rattle.instance_pairs.specs.Pairs.{Plan}
 use Rattle.ils_face.specs.Rules.{Rules}
 

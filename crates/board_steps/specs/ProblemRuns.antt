@@ -1,4 +1,4 @@
--- The runs of a problem.
+-- What each cell of a problem runs, and the problem's outcome table by a told truth.
 use Rattle.std.specs.Prelude.{ℕ, List, map, Option, Some, None}
 use Rattle.objective.specs.Costs.{Table}
 use Rattle.objective.specs.declared.Outcome.{Outcome}

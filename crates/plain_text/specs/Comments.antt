@@ -1,4 +1,4 @@
--- Comments at the ends of lines.
+-- A line without its comment.
 use Rattle.std.specs.Prelude.{ℕ, ◌==◌, List}
 use Rattle.std.specs.List.{before_first}
 

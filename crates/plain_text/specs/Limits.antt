@@ -1,4 +1,4 @@
--- The limits of files.
+-- How many bytes a file may have.
 use Rattle.std.specs.Prelude.{ℕ}
 
 -- the most bytes that a file may have

@@ -1,4 +1,4 @@
--- Lists whose elements differ.
+-- Whether all elements of a list, or all texts, differ.
 use Rattle.std.specs.Prelude.{ℕ, Bool, true, not, ◌&&◌, List, [], ◌∷◌, bytes_eq}
 use Rattle.std.specs.List.{list_any}
 

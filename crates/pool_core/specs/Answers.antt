@@ -1,4 +1,4 @@
--- What is said of a ticket that is given up.
+-- Whether a ticket that is given up is live, and whether it is marked.
 use Rattle.std.specs.Prelude.{Bool, true, false, Option, Some, None}
 use Rattle.board_steps.specs.declared.tickets.LiveTicket.{LiveTicket}
 

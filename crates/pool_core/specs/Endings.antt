@@ -1,4 +1,4 @@
--- How a search is at its end.
+-- How a board's search ended, or that it runs, and what is shown then.
 use Rattle.std.specs.Prelude.{◌≡◌, ◌≢◌, List, Option, Some, None}
 use Rattle.objective.specs.Costs.{Table}
 use Rattle.objective.specs.declared.Outcome.{Outcome}

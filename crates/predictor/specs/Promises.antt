@@ -1,4 +1,4 @@
--- What every wish is.
+-- What holds of all wishes: allowed runs that tell more, none twice, not too many.
 use Rattle.std.specs.Prelude.{◌≤◌, ◌≡◌, ◌≢◌, false, List, Option, Some, None}
 use Rattle.std.specs.List.{AllPairs}
 use Rattle.objective.specs.Bounds.{Bounds}

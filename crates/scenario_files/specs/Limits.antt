@@ -1,4 +1,4 @@
--- The limits of a scenario that no other crate knows.
+-- The greatest cutoff length, for which `max` stands.
 use Rattle.std.specs.Prelude.{ℕ}
 
 -- the greatest cutoff length, for which `max` stands

@@ -1,4 +1,4 @@
--- The ranges of a scenario's values.
+-- From what to what each key's value may be, in drafts, words and scenarios.
 use Rattle.std.specs.Prelude.{ℕ, ◌≡◌, ◌≤◌, ◌^◌, ◌-◌, false, List, IfSome}
 use Rattle.std.specs.List.{list_all}
 use Rattle.objective.specs.declared.Micros.{Micros}

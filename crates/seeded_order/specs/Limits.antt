@@ -1,4 +1,4 @@
--- Limits of draws.
+-- How many configurations are drawn before the default is taken.
 use Rattle.std.specs.Prelude.{ℕ}
 
 -- how many configurations are drawn at most before the default is taken

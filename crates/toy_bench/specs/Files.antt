@@ -1,4 +1,4 @@
--- The files of a toy.
+-- The files of a toy, by its number.
 use Rattle.std.specs.Prelude.{ℕ, zero, suc, List, [], ◌∷◌, ◌++◌, codes}
 use Rattle.std.specs.Fmt.{decimal}
 use Rattle.outside.specs.Folders.{Folder}

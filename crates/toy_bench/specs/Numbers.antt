@@ -1,4 +1,4 @@
--- The number of a toy.
+-- Which words are a toy's number, and which number.
 use Rattle.std.specs.Prelude.{ℕ, Bool, ◌^◌, ◌&&◌, List, length, nat_lt, Option, Some, None, if◌then◌else◌}
 use Rattle.std.specs.Char.{is_ascii_digit}
 use Rattle.std.specs.List.{list_all}

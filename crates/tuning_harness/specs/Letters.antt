@@ -1,4 +1,4 @@
--- What children answer.
+-- What a child answers, by a letter of a table.
 use Rattle.std.specs.Prelude.{ℕ, Bool, false, ◌+◌, ◌-◌, ◌*◌, ◌==◌, ◌||◌, List, [], ◌∷◌, bytes_eq, codes, slice_index_or, if◌then◌else◌}
 use Rattle.objective.specs.declared.Outcome.{Outcome}
 use Rattle.objective.specs.declared.Outcome.TheVariants.{Solved, Unsolved, Crashed, Abort}
