@@ -1,5 +1,5 @@
 -- The rules of a search as plain numbers and lists.
-use Rattle.std.specs.Prelude.{ℕ, ◌≤◌, ◌<◌, ◌^◌}
+use Rattle.std.specs.Prelude.{ℕ, ◌≤◌, ◌<◌, ◌^◌, List, [], ◌∷◌}
 use Rattle.objective.specs.Bounds.{Bounds, AreInRange}
 use Rattle.objective.specs.Limits
 use Rattle.param_space.specs.Space.{Lists}
@@ -16,6 +16,11 @@ pub record Rules : Type 0 where
   pub restart : ℕ  -- in ten-thousandths
   pub limits : Bounds
   pub workers : ℕ
+
+-- the numbers among the rules
+abbrev pub numbers_of : Rules → List ℕ
+numbers_of rules =
+    rules.seed ∷ rules.max_runs ∷ rules.budget ∷ rules.initial ∷ rules.strength ∷ rules.restart ∷ rules.workers ∷ []
 
 -- the lists make a space, and each number is within its limits
 pub record AreRules (rules : Rules) : Type 0 where

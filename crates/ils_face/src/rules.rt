@@ -35,42 +35,58 @@ impl Model for Rules {
 
     ghost Value = { rules.Rules };
 
-    ghost view = { λ r. record { space = r.space; seed = r.seed; max_runs = r.max_runs; budget = r.budget; initial = r.initial; strength = r.strength; restart = r.restart; limits = r.limits; workers = r.workers } };
+    ghost view = { λ r. record {
+      space = r.space;
+      seed = r.seed;
+      max_runs = r.max_runs;
+      budget = r.budget;
+      initial = r.initial;
+      strength = r.strength;
+      restart = r.restart;
+      limits = r.limits;
+      workers = r.workers;
+    } };
 
-    ghost invariant = { λ r. rules.AreRules (record { space = r.space; seed = r.seed; max_runs = r.max_runs; budget = r.budget; initial = r.initial; strength = r.strength; restart = r.restart; limits = r.limits; workers = r.workers }) };
+    ghost invariant = { λ r. rules.AreRules (view r) };
 }
 
 impl PartialEq for Rules {
     ghost use Rattle.std.specs.Prelude.{nat_eq};
     ghost use Rattle.std.specs.Cmp.{partial_equiv_from_equiv};
-    ghost use Rattle.std.proofs.lemmas.Cmp.{and_equiv, on_equiv, nat_eq_equiv};
+    ghost use Rattle.std.specs.Cmp.Lexicographic.{pointwise};
+    ghost use Rattle.std.specs.Ordering.{on, eq_of_both};
+    ghost use Rattle.std.proofs.lemmas.Cmp.{and_equiv, on_equiv, lists_equiv, nat_eq_equiv};
     ghost use Rattle.param_space.specs.contracts.space.SpaceEq.TheImpl.Laws as space;
     ghost use Rattle.objective.specs.contracts.LimitsEq.TheImpl.Laws as limits;
-    ghost use Rattle.std.specs.Ordering.{on, eq_of_both};
+    ghost use Rattle.ils_face.specs.Rules.{numbers_of};
 
-    ghost eq = { eq_of_both (on (λ r. r.space) ⟦<Space as PartialEq>⟧.eq) (eq_of_both (on (λ r. r.seed) nat_eq) (eq_of_both (on (λ r. r.max_runs) nat_eq) (eq_of_both (on (λ r. r.budget) nat_eq) (eq_of_both (on (λ r. r.initial) nat_eq) (eq_of_both (on (λ r. r.strength) nat_eq) (eq_of_both (on (λ r. r.restart) nat_eq) (eq_of_both (on (λ r. r.limits) ⟦<Limits as PartialEq>⟧.eq) (on (λ r. r.workers) nat_eq)))))))) };
+    ghost eq = { eq_of_both (on (λ r. r.space) ⟦<Space as PartialEq>⟧.eq) (eq_of_both
+        (on (λ r. r.limits) ⟦<Limits as PartialEq>⟧.eq) (on numbers_of (pointwise nat_eq))) };
 
-    ghost laws = { partial_equiv_from_equiv (and_equiv (on_equiv (λ r. r.space) space.laws-law) (and_equiv (on_equiv (λ r. r.seed) nat_eq_equiv) (and_equiv (on_equiv (λ r. r.max_runs) nat_eq_equiv) (and_equiv (on_equiv (λ r. r.budget) nat_eq_equiv) (and_equiv (on_equiv (λ r. r.initial) nat_eq_equiv) (and_equiv (on_equiv (λ r. r.strength) nat_eq_equiv) (and_equiv (on_equiv (λ r. r.restart) nat_eq_equiv) (and_equiv (on_equiv (λ r. r.limits) limits.laws-law) (on_equiv (λ r. r.workers) nat_eq_equiv))))))))) };
+    ghost laws = { partial_equiv_from_equiv (and_equiv (on_equiv (λ r. r.space) space.laws-law)
+        (and_equiv (on_equiv (λ r. r.limits) limits.laws-law) (on_equiv numbers_of (lists_equiv nat_eq_equiv)))) };
 
     fn eq(&self, other: &Rules) -> bool {
         self.space == other.space
+            && self.limits == other.limits
             && self.seed == other.seed
             && self.max_runs == other.max_runs
             && self.budget == other.budget
             && self.initial == other.initial
             && self.strength == other.strength
             && self.restart == other.restart
-            && self.limits == other.limits
             && self.workers == other.workers
     }
 }
 
 impl Eq for Rules {
-    ghost use Rattle.std.proofs.lemmas.Cmp.{and_equiv, on_equiv, nat_eq_equiv};
+    ghost use Rattle.std.proofs.lemmas.Cmp.{and_equiv, on_equiv, lists_equiv, nat_eq_equiv};
     ghost use Rattle.param_space.specs.contracts.space.SpaceEq.TheImpl.Laws as space;
     ghost use Rattle.objective.specs.contracts.LimitsEq.TheImpl.Laws as limits;
+    ghost use Rattle.ils_face.specs.Rules.{numbers_of};
 
-    ghost laws = { and_equiv (on_equiv (λ r. r.space) space.laws-law) (and_equiv (on_equiv (λ r. r.seed) nat_eq_equiv) (and_equiv (on_equiv (λ r. r.max_runs) nat_eq_equiv) (and_equiv (on_equiv (λ r. r.budget) nat_eq_equiv) (and_equiv (on_equiv (λ r. r.initial) nat_eq_equiv) (and_equiv (on_equiv (λ r. r.strength) nat_eq_equiv) (and_equiv (on_equiv (λ r. r.restart) nat_eq_equiv) (and_equiv (on_equiv (λ r. r.limits) limits.laws-law) (on_equiv (λ r. r.workers) nat_eq_equiv)))))))) };
+    ghost laws = { and_equiv (on_equiv (λ r. r.space) space.laws-law)
+        (and_equiv (on_equiv (λ r. r.limits) limits.laws-law) (on_equiv numbers_of (lists_equiv nat_eq_equiv))) };
 }
 
 impl Rules {

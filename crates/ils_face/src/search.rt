@@ -95,14 +95,17 @@ pub trait Search: Sized + Drop {
     ghost steady: { (rules : Rules) → AreRules rules → IsSteady rules (shown rules) };
 
     /// Given the replies of a table, it shows what the procedure does.
-    ghost follows: { (rules : Rules) (T : Table) → AreRules rules → Follows (shown rules) (sums_under rules T) (plain rules T) };
+    ghost follows: { (rules : Rules) (T : Table) → AreRules rules
+        → Follows (shown rules) (sums_under rules T) (plain rules T) };
 
     /// Over a table in which each abort counts as unsolved the procedure finishes, and the
     /// search goes through all its asks.
-    ghost finishes: { (rules : Rules) (T : Table) → AreRules rules → GoesThrough (shown rules) (sums_under rules (quiet T)) (plain rules (quiet T)) };
+    ghost finishes: { (rules : Rules) (T : Table) → AreRules rules
+        → GoesThrough (shown rules) (sums_under rules (quiet T)) (plain rules (quiet T)) };
 
     /// Where the table's own costs are known at all those asks, the procedure over the table
     /// is the same; else it is aborted at the first ask whose cost isn't known, with the same
     /// asks up to that one and the entries that were added before it.
-    ghost aborts: { (rules : Rules) (T : Table) → AreRules rules → MeetsAborts (sums_under rules T) (plain rules T) (plain rules (quiet T)) };
+    ghost aborts: { (rules : Rules) (T : Table) → AreRules rules
+        → MeetsAborts (sums_under rules T) (plain rules T) (plain rules (quiet T)) };
 }
