@@ -10,11 +10,11 @@ use Rattle.ils_face.specs.Rules.{Rules, AreRules}
 use Rattle.ils_face.specs.Setups.{setup_of}
 use Rattle.ils_face.proofs.Setups.{setup_of-numbers}
 use Rattle.ils_face.specs.Views.{AreFitting}
-use Rattle.ils_frame.specs.declared.pending.Pending.TheVariants.{Opening}
+use Rattle.ils_frame.specs.declared.purpose.Purpose.TheVariants.{Opening}
 use Rattle.ils_frame.specs.Comparers.{AskedStage, Ready, Asking, Decided, is_asking, question_in, decision_in, Parts, Answered, IsSteadyComparer}
 use Rattle.ils_frame.specs.NextComparison.{next}
 use Rattle.ils_frame.specs.Machine.{Machine, begin, settle, first_machine, next_machine, machine_after, shown_after}
-use Rattle.ils_frame.specs.AllowedPending.{IsPendingAllowed}
+use Rattle.ils_frame.specs.AllowedPurposes.{IsPurposeAllowed}
 use Rattle.ils_frame.specs.Laws.AllowedDraws.{draws_allowed}
 use Rattle.ils_frame.specs.Laws.MachineInvariant.{most_draws, live}
 use Rattle.ils_frame.specs.Laws.SteadyLaw.{FittingByRules, FitsAt, fits_at, after_all-none, after_all-more, few-steps, steady-setup, fitting-here}
@@ -28,7 +28,7 @@ decided-asks (Decided d) b e = refl
 module _ {S : Type 0} (parts : Parts S) (first : S) (rules : Rules) where
   -- what is at hand when a reply comes
   pub record CanAnswer (f : Machine S) : Type 0 where
-    pub allowed : IsPendingAllowed (IsConfig rules.space) f.pending
+    pub allowed : IsPurposeAllowed (IsConfig rules.space) f.purpose
     pub drawn : f.event < 2 ^ 57
     pub within : (parts.last f.comparer).compared ≤ rules.budget
     pub going : f.over ≡ false
@@ -61,31 +61,31 @@ module _ {S : Type 0} (parts : Parts S) (first : S) (rules : Rules) where
     -- where an ask follows
     pub asks-on : (f : Machine S) (d : S) (rs : List Reply) (r : Reply) (o : Option Bool) → f ≡ machine_after parts first rules rs → AreFitting (shown_after parts first rules) rs → Fits (ask_for (question_in (parts.stage f.comparer))) r
         → o ≡ decision_in (parts.stage (parts.after f.comparer r)) → o ≡ None → d ≡ parts.after f.comparer r
-        → next_machine parts (setup_of rules) f r ≡ record { comparer = d; pending = f.pending; event = f.event; over = f.over }
+        → next_machine parts (setup_of rules) f r ≡ record { comparer = d; purpose = f.purpose; event = f.event; over = f.over }
     unfolding settle
     asks-on f d rs r o e i fits h n c =
-        ap (settle parts (setup_of rules) (parts.after f.comparer r) f.pending f.event) (sym h ∙ n)
-        ∙ ap (λ k. record { comparer = k; pending = f.pending; event = f.event; over = false }) (sym c)
-        ∙ ap (λ b. record { comparer = d; pending = f.pending; event = f.event; over = b }) (sym (can-answer f rs r e i fits).going)
+        ap (settle parts (setup_of rules) (parts.after f.comparer r) f.purpose f.event) (sym h ∙ n)
+        ∙ ap (λ k. record { comparer = k; purpose = f.purpose; event = f.event; over = false }) (sym c)
+        ∙ ap (λ b. record { comparer = d; purpose = f.purpose; event = f.event; over = b }) (sym (can-answer f rs r e i fits).going)
 
     -- where the comparison is decided, the next one begins
     pub begins-next : (f g : Machine S) (d : S) (rs : List Reply) (r : Reply) (o : Option Bool) (won : Bool) → f ≡ machine_after parts first rules rs → AreFitting (shown_after parts first rules) rs → Fits (ask_for (question_in (parts.stage f.comparer))) r
         → o ≡ decision_in (parts.stage (parts.after f.comparer r)) → o ≡ Some won → d ≡ parts.after f.comparer r
-        → g ≡ begin parts (setup_of rules) d (next (setup_of rules) (parts.last f.comparer).compared f.pending won f.event)
+        → g ≡ begin parts (setup_of rules) d (next (setup_of rules) (parts.last f.comparer).compared f.purpose won f.event)
         → next_machine parts (setup_of rules) f r ≡ g
     unfolding settle
     begins-next f g d rs r o won e i fits h n c b =
-        ap (settle parts (setup_of rules) (parts.after f.comparer r) f.pending f.event) (sym h ∙ n)
-        ∙ ap (λ m. begin parts (setup_of rules) (parts.after f.comparer r) (next (setup_of rules) m f.pending won f.event)) (compared-kept f rs r e i fits)
-        ∙ ap (λ k. begin parts (setup_of rules) k (next (setup_of rules) (parts.last f.comparer).compared f.pending won f.event)) (sym c)
+        ap (settle parts (setup_of rules) (parts.after f.comparer r) f.purpose f.event) (sym h ∙ n)
+        ∙ ap (λ m. begin parts (setup_of rules) (parts.after f.comparer r) (next (setup_of rules) m f.purpose won f.event)) (compared-kept f rs r e i fits)
+        ∙ ap (λ k. begin parts (setup_of rules) k (next (setup_of rules) (parts.last f.comparer).compared f.purpose won f.event)) (sym c)
         ∙ sym b
 
   -- the opened machine where an ask is open
-  pub opens-asking : is_asking (parts.stage first) ≡ true → record { comparer = first; pending = Opening; event = 0; over = false } ≡ machine_after parts first rules []
+  pub opens-asking : is_asking (parts.stage first) ≡ true → record { comparer = first; purpose = Opening; event = 0; over = false } ≡ machine_after parts first rules []
   unfolding settle
   opens-asking a = opens-at (parts.stage first) refl a ∙ sym (after_all-none parts (setup_of rules) (first_machine parts (setup_of rules) first))
     where
-      opens-at : (p : AskedStage) → parts.stage first ≡ p → is_asking p ≡ true → record { comparer = first; pending = Opening; event = 0; over = false } ≡ settle parts (setup_of rules) first Opening 0 (decision_in (parts.stage first))
+      opens-at : (p : AskedStage) → parts.stage first ≡ p → is_asking p ≡ true → record { comparer = first; purpose = Opening; event = 0; over = false } ≡ settle parts (setup_of rules) first Opening 0 (decision_in (parts.stage first))
       opens-at Ready e b = absurd (false≢true b)
       opens-at (Asking q) e b = ap (settle parts (setup_of rules) first Opening 0) (sym (ap decision_in e))
       opens-at (Decided d) e b = absurd (false≢true b)

@@ -5,8 +5,8 @@ use Rattle.uncapped.specs.Setup.{Setup}
 use Rattle.ils_face.specs.Rules.{Rules}
 use Rattle.ils_face.proofs.Setups.{SetupOf, setup_of-numbers}
 use Rattle.ils_face.specs.Setups.{setup_of}
-use Rattle.ils_frame.specs.declared.pending.After.{After}
-use Rattle.ils_frame.specs.declared.pending.After.TheVariants.{Turn}
+use Rattle.ils_frame.specs.declared.purpose.After.{After}
+use Rattle.ils_frame.specs.declared.purpose.After.TheVariants.{Turn}
 use Rattle.ils_frame.specs.declared.upcoming.Among.{Among}
 use Rattle.ils_frame.specs.declared.upcoming.Among.TheVariants.{Over, Compared, Spent}
 use Rattle.ils_frame.specs.NextComparison.{Next, next_among, next_turn, next_after, perturbation, neighbours_in_order, Compare, Finish}

@@ -8,8 +8,8 @@ use Rattle.ils_face.specs.declared.asks.Reply.{Reply}
 use Rattle.ils_face.specs.declared.asks.Reply.TheVariants.{Exact}
 use Rattle.ils_face.specs.Replies.{Fits, ask_of, reply_up_to, cost_asked}
 use Rattle.ils_face.specs.Trajectories.{newest, IsTrajectory}
-use Rattle.ils_frame.specs.declared.pending.Stage.{Stage}
-use Rattle.ils_frame.specs.declared.pending.Stage.TheVariants as stages
+use Rattle.ils_frame.specs.declared.stage.Stage.{Stage}
+use Rattle.ils_frame.specs.declared.stage.Stage.TheVariants as stages
 
 -- how far a comparer is, with its question
 pub data AskedStage : Type 0 where

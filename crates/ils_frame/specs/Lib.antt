@@ -3,6 +3,6 @@ pub mod NextComparison
 pub mod Machine
 pub mod TriedNeighbours
 pub mod HeldReplies
-pub mod AllowedPending
+pub mod AllowedPurposes
 pub mod UpcomingComparison
 pub mod Laws

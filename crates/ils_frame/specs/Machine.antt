@@ -5,9 +5,9 @@ use Rattle.ils_face.specs.declared.asks.Reply.{Reply}
 use Rattle.ils_face.specs.Replies.{ask_for}
 use Rattle.ils_face.specs.Rules.{Rules}
 use Rattle.ils_face.specs.Views.{View}
-use Rattle.ils_frame.specs.declared.pending.Course.{Course}
-use Rattle.ils_frame.specs.declared.pending.Pending.{Pending}
-use Rattle.ils_frame.specs.declared.pending.Pending.TheVariants.{Opening}
+use Rattle.ils_frame.specs.declared.course.Course.{Course}
+use Rattle.ils_frame.specs.declared.purpose.Purpose.{Purpose}
+use Rattle.ils_frame.specs.declared.purpose.Purpose.TheVariants.{Opening}
 use Rattle.ils_frame.specs.Comparers.{Parts, question_in, decision_in}
 use Rattle.ils_frame.specs.NextComparison.{Next, Compare, Finish, next}
 use Rattle.ils_face.specs.Setups.{setup_of}
@@ -15,7 +15,7 @@ use Rattle.ils_face.specs.Setups.{setup_of}
 -- a comparer with what stands between two comparisons
 pub record Machine (S : Type 0) : Type 0 where
   pub comparer : S
-  pub pending : Pending  -- what the present comparison is for
+  pub purpose : Purpose  -- what the present comparison is for
   pub event : ℕ  -- the number of the next draw
   pub over : Bool  -- the budget is used up
 
@@ -28,13 +28,13 @@ module _ {S : Type 0} (parts : Parts S) (setup : Setup) where
   -- the next comparison begins, or the budget is used up
   abbrev pub begin : S → Next → Machine S
   begin c (Compare purpose θ φ e) = if (parts.last c).compared == setup.budget
-      then record { comparer = c; pending = purpose; event = e; over = true }
-      else record { comparer = parts.begun c θ φ ((parts.last c).compared + 1); pending = purpose; event = e; over = false }
-  begin c (Finish e) = record { comparer = c; pending = Opening; event = e; over = true }
+      then record { comparer = c; purpose = purpose; event = e; over = true }
+      else record { comparer = parts.begun c θ φ ((parts.last c).compared + 1); purpose = purpose; event = e; over = false }
+  begin c (Finish e) = record { comparer = c; purpose = Opening; event = e; over = true }
 
   -- where a comparison was decided, the next one begins
-  unfoldable pub settle : S → Pending → ℕ → Option Bool → Machine S
-  settle c purpose e None = record { comparer = c; pending = purpose; event = e; over = false }
+  unfoldable pub settle : S → Purpose → ℕ → Option Bool → Machine S
+  settle c purpose e None = record { comparer = c; purpose = purpose; event = e; over = false }
   settle c purpose e (Some won) = begin c (next setup (parts.last c).compared purpose won e)
 
   -- the machine before any reply
@@ -43,7 +43,7 @@ module _ {S : Type 0} (parts : Parts S) (setup : Setup) where
 
   -- the machine after one more reply
   abbrev pub next_machine : Machine S → Reply → Machine S
-  next_machine f r = settle (parts.after f.comparer r) f.pending f.event (decision_in (parts.stage (parts.after f.comparer r)))
+  next_machine f r = settle (parts.after f.comparer r) f.purpose f.event (decision_in (parts.stage (parts.after f.comparer r)))
 
   -- the machine after these replies
   unfoldable pub after_all : Machine S → List Reply → Machine S
@@ -66,7 +66,7 @@ module _ {S : Type 0} (parts : Parts S) (setup : Setup) where
 
 -- a comparer and its course as the machine
 abbrev pub machine_of : {S : Type 0} → S → Course → Machine S
-machine_of c course = record { comparer = c; pending = course.pending; event = course.event; over = course.over }
+machine_of c course = record { comparer = c; purpose = course.purpose; event = course.event; over = course.over }
 
 module _ {S : Type 0} (parts : Parts S) (first : S) (rules : Rules) where
   -- the machine of a search by its rules and replies

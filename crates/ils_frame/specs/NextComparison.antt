@@ -3,14 +3,14 @@ use Rattle.std.specs.Prelude.{ℕ, zero, suc, ◌+◌, ◌-◌, Bool, List, [], 
 use Rattle.uncapped.specs.Procedure.{Settings}
 use Rattle.uncapped.specs.Setup.{Setup}
 use Rattle.uncapped.specs.Searching.{or_stay}
-use Rattle.ils_frame.specs.declared.pending.After.{After}
-use Rattle.ils_frame.specs.declared.pending.After.TheVariants.{First, Turn}
-use Rattle.ils_frame.specs.declared.pending.Pending.{Pending}
-use Rattle.ils_frame.specs.declared.pending.Pending.TheVariants.{Opening, Trying, Improving, Returning}
+use Rattle.ils_frame.specs.declared.purpose.After.{After}
+use Rattle.ils_frame.specs.declared.purpose.After.TheVariants.{First, Turn}
+use Rattle.ils_frame.specs.declared.purpose.Purpose.{Purpose}
+use Rattle.ils_frame.specs.declared.purpose.Purpose.TheVariants.{Opening, Trying, Improving, Returning}
 
 -- the next comparison and what it is for, or the end; with the number of the next draw
 pub data Next : Type 0 where
-  Compare : Pending → (first second : Settings) → (event : ℕ) → Next
+  Compare : Purpose → (first second : Settings) → (event : ℕ) → Next
   Finish : (event : ℕ) → Next
 
 -- a configuration that was reached, with the number of the next draw
@@ -70,7 +70,7 @@ module _ (setup : Setup) where
   next_restarted m more best e = if setup.coin e then next_turn m more (setup.random (e + 1)) (e + 1 + 1) else next_turn m more best (e + 1)
 
   -- what follows when the present comparison came to this, where m comparisons are begun
-  abbrev pub next : ℕ → Pending → Bool → ℕ → Next
+  abbrev pub next : ℕ → Purpose → Bool → ℕ → Next
   next m Opening won e = next_tried m setup.initial setup.start e
   next m (Trying more θ current) won e = next_tried m more (if won then θ else current) e
   next m (Improving after left θ tried) won e = if won

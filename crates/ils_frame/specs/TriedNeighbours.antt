@@ -7,9 +7,9 @@ pub record Tried : Type 0 where
   pub neighbour : Settings
   pub rest : List Settings
 
--- of a list, the one at a place is tried
+-- of a list, the one at an index is tried
 abbrev pub tried_at : List Settings → ℕ → Tried
-tried_at θs place = record { neighbour = slice_index_or θs place []; rest = drop (place + 1) θs }
+tried_at θs index = record { neighbour = slice_index_or θs index []; rest = drop (index + 1) θs }
 
 -- the first of those after it is tried, where there is one
 abbrev pub first_tried : Tried → List Settings → Tried

@@ -1,9 +1,9 @@
 -- What is made ready before a comparison begins, as the next comparison that it stands for.
 use Rattle.std.specs.Prelude.{ℕ, zero, suc, ◌-◌, List, [], ◌∷◌}
 use Rattle.uncapped.specs.Procedure.{Settings}
-use Rattle.ils_frame.specs.declared.pending.After.{After}
-use Rattle.ils_frame.specs.declared.pending.Pending.{Pending}
-use Rattle.ils_frame.specs.declared.pending.Pending.TheVariants.{Opening, Trying, Improving, Returning}
+use Rattle.ils_frame.specs.declared.purpose.After.{After}
+use Rattle.ils_frame.specs.declared.purpose.Purpose.{Purpose}
+use Rattle.ils_frame.specs.declared.purpose.Purpose.TheVariants.{Opening, Trying, Improving, Returning}
 use Rattle.ils_frame.specs.declared.upcoming.Among.{Among}
 use Rattle.ils_frame.specs.declared.upcoming.Among.TheVariants.{Compared, Spent, Over}
 use Rattle.ils_frame.specs.declared.upcoming.Upcoming.{Upcoming}
@@ -18,14 +18,14 @@ among_of after zero θ (φ ∷ rest) = Spent
 among_of after (suc left) θ (φ ∷ rest) = Compared (Improving after left θ (record { neighbour = φ; rest = rest })) φ θ
 
 -- the next neighbour of the same list is tried
-abbrev pub pending_along : Pending → Pending
-pending_along Opening = Opening
-pending_along (Trying more θ current) = Trying more θ current
-pending_along (Improving after left θ tried) = Improving after (left - 1) θ (tried_next tried)
-pending_along (Returning more θ ils) = Returning more θ ils
+abbrev pub purpose_along : Purpose → Purpose
+purpose_along Opening = Opening
+purpose_along (Trying more θ current) = Trying more θ current
+purpose_along (Improving after left θ tried) = Improving after (left - 1) θ (tried_next tried)
+purpose_along (Returning more θ ils) = Returning more θ ils
 
 -- what is upcoming as the next comparison
-abbrev pub upcoming_seen : Pending → ℕ → Upcoming → Next
-upcoming_seen purpose e (Along first second) = Compare (pending_along purpose) first second e
+abbrev pub upcoming_seen : Purpose → ℕ → Upcoming → Next
+upcoming_seen purpose e (Along first second) = Compare (purpose_along purpose) first second e
 upcoming_seen purpose e (Begin next first second event) = Compare next first second event
 upcoming_seen purpose e (End event) = Finish event

@@ -8,7 +8,9 @@ ghost use Rattle.ils_frame.specs.Comparers.{question_in};
 ghost use Rattle.ils_frame.specs.UpcomingComparison.{upcoming_seen};
 
 use crate::comparer::Comparer;
-use crate::pending::{Course, Pending, Stage};
+use crate::course::Course;
+use crate::purpose::Purpose;
+use crate::stage::Stage;
 use crate::upcoming::{Upcoming, next};
 use ils_face::Rules;
 use objective::Memory;
@@ -40,25 +42,25 @@ pub(crate) fn begin<C: Comparer>(
 )
     requires ready { question_in (C.parts.stage comparer.old) ≡ None }
     requires within { (C.parts.last comparer.old).compared ≤ rules.now.budget }
-    ensures { machine_of comparer.new course.new ≡ Machine.begin C.parts (setup_of rules.now) comparer.old (upcoming_seen course.old.pending course.old.event upcoming) }
+    ensures { machine_of comparer.new course.new ≡ Machine.begin C.parts (setup_of rules.now) comparer.old (upcoming_seen course.old.purpose course.old.event upcoming) }
 {
     match upcoming {
         Upcoming::Along { first, second } => {
-            course.pending.advance();
+            course.purpose.advance();
             course.over = !begins(comparer, rules, first, second);
         }
         Upcoming::Begin {
-            pending,
+            purpose,
             first,
             second,
             event,
         } => {
-            course.pending = pending;
+            course.purpose = purpose;
             course.event = event;
             course.over = !begins(comparer, rules, first, second);
         }
         Upcoming::End { event } => {
-            course.pending = Pending::Opening;
+            course.purpose = Purpose::Opening;
             course.event = event;
             course.over = true;
         }
@@ -77,7 +79,7 @@ pub(crate) fn set_out<C: Comparer>(
     ensures { IfOk result (λ course. machine_of comparer.new course ≡ machine_after C.parts (C.at_open rules.now) rules.now []) }
 {
     let mut course = Course {
-        pending: Pending::Opening,
+        purpose: Purpose::Opening,
         event: 0,
         over: false,
     };
@@ -85,7 +87,7 @@ pub(crate) fn set_out<C: Comparer>(
         return Ok(course);
     }
     let compared = comparer.compared();
-    let upcoming = next(alloc, rules, compared, &course.pending, false, 0)?;
+    let upcoming = next(alloc, rules, compared, &course.purpose, false, 0)?;
     begin(comparer, &mut course, rules, upcoming);
     Ok(course)
 }

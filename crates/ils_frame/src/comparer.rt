@@ -12,7 +12,7 @@ ghost use Rattle.ils_face.specs.Setups.{setup_of};
 ghost use Rattle.ils_face.specs.declared.rules.Rules.{Rules};
 ghost use Rattle.ils_frame.specs.Comparers.{Parts, IsSteadyComparer, Keeps, stage_of, question_in, decision_in};
 
-use crate::pending::Stage;
+use crate::stage::Stage;
 use ils_face::{Ask, Entry, Reply, Rules};
 use objective::{Memory, Sum};
 use param_space::Config;

@@ -3,8 +3,9 @@ ghost use Rattle.std.specs.Prelude.{◌≡◌};
 
 use crate::beginning::{begin, set_out};
 use crate::comparer::Comparer;
-use crate::pending::{Course, Stage};
+use crate::course::Course;
 use crate::replies::Replies;
+use crate::stage::Stage;
 use crate::upcoming::next;
 use ils_face::{Ask, Entry, Reply, Rules, Search};
 use objective::{Memory, Sum};
@@ -98,7 +99,7 @@ impl<C: Comparer> Search for Ils<C> {
                 let rules: &Rules = &self.rules;
                 let compared = self.comparer.compared();
                 let course = &self.course;
-                let upcoming = next(alloc, rules, compared, &course.pending, won, course.event)?;
+                let upcoming = next(alloc, rules, compared, &course.purpose, won, course.event)?;
                 self.comparer.answer(reply)?;
                 begin(&mut self.comparer, &mut self.course, rules, upcoming);
             }

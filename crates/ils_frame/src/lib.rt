@@ -3,14 +3,17 @@
 
 mod beginning;
 mod comparer;
+mod course;
 mod drawing;
 mod entries;
 mod ils;
-mod pending;
+mod neighbours;
+mod purpose;
 mod replies;
+mod stage;
 mod upcoming;
 
 pub use comparer::Comparer;
 pub use entries::Entries;
 pub use ils::Ils;
-pub use pending::Stage;
+pub use stage::Stage;

@@ -2,13 +2,14 @@
 ghost use Rattle.std.specs.Prelude.{if◌then◌else◌, ℕ, ◌+◌, ◌≡◌, ◌<◌, ◌≤◌, ◌^◌, IfOk};
 ghost use Rattle.param_space.specs.Configurations.{IsConfig};
 ghost use Rattle.ils_face.specs.Setups.{setup_of};
-ghost use Rattle.ils_frame.specs.AllowedPending.{IsPendingAllowed};
-ghost use Rattle.ils_frame.specs.declared.pending.Pending.{Pending};
+ghost use Rattle.ils_frame.specs.AllowedPurposes.{IsPurposeAllowed};
+ghost use Rattle.ils_frame.specs.declared.purpose.Purpose.{Purpose};
 ghost use Rattle.ils_frame.specs.NextComparison;
 ghost use Rattle.ils_frame.specs.UpcomingComparison.{among_of, upcoming_seen};
 
 use crate::drawing::{neighbours_in_order, perturbed, random_config, restarts};
-use crate::pending::{After, Neighbours, Pending};
+use crate::neighbours::Neighbours;
+use crate::purpose::{After, Purpose};
 use ils_face::Rules;
 use objective::Memory;
 use param_space::Config;
@@ -20,7 +21,7 @@ pub(crate) enum Among {
     /// Its first one is compared.
     Compared {
         /// What for.
-        pending: Pending,
+        purpose: Purpose,
         /// The neighbour.
         first: Config,
         /// The current configuration.
@@ -50,7 +51,7 @@ pub(crate) enum Upcoming {
     /// Another one.
     Begin {
         /// What for.
-        pending: Pending,
+        purpose: Purpose,
         /// The challenger.
         first: Config,
         /// The one that it is compared with.
@@ -85,14 +86,14 @@ fn first_among(
     }
     let around = Neighbours::new(neighbours)?;
     let (first, second) = (around.tried().copy()?, current.copy()?);
-    let pending = Pending::Improving {
+    let purpose = Purpose::Improving {
         after,
         left: left - 1,
         current,
         around,
     };
     Ok(Among::Compared {
-        pending,
+        purpose,
         first,
         second,
     })
@@ -100,11 +101,11 @@ fn first_among(
 
 /// What an improvement found is compared with the best so far.
 fn returning(more: u32, ils: Config, found: Config, event: u64) -> Result<Upcoming, Memory>
-    ensures { IfOk result (λ u. u ≡ Upcoming.Begin (Pending.Returning more found ils) found ils event) }
+    ensures { IfOk result (λ u. u ≡ Upcoming.Begin (Purpose.Returning more found ils) found ils event) }
 {
     let (first, second) = (found.copy()?, ils.copy()?);
     Ok(Upcoming::Begin {
-        pending: Pending::Returning { more, found, ils },
+        purpose: Purpose::Returning { more, found, ils },
         first,
         second,
         event,
@@ -124,7 +125,7 @@ fn next_turn(
     requires config { IsConfig rules.now.space ils }
     requires event { event < 2 ^ 59 }
     requires within { compared ≤ rules.now.budget }
-    ensures { (purpose : Pending) (e : ℕ) → IfOk result (λ u. upcoming_seen purpose e u ≡ NextComparison.next_turn (setup_of rules.now) compared turns ils event) }
+    ensures { (purpose : Purpose) (e : ℕ) → IfOk result (λ u. upcoming_seen purpose e u ≡ NextComparison.next_turn (setup_of rules.now) compared turns ils event) }
 {
     if turns == 0 {
         return Ok(Upcoming::End { event });
@@ -140,11 +141,11 @@ fn next_turn(
     let left = rules.budget - compared;
     match first_among(after, left, far, around)? {
         Among::Compared {
-            pending,
+            purpose,
             first,
             second,
         } => Ok(Upcoming::Begin {
-            pending,
+            purpose,
             first,
             second,
             event: drawn + 1,
@@ -169,7 +170,7 @@ fn next_after(
     requires config { IsConfig rules.now.space found }
     requires event { event < 2 ^ 59 }
     requires within { compared ≤ rules.now.budget }
-    ensures { (purpose : Pending) (e : ℕ) → IfOk result (λ u. upcoming_seen purpose e u ≡ NextComparison.next_after (setup_of rules.now) compared after found event) }
+    ensures { (purpose : Purpose) (e : ℕ) → IfOk result (λ u. upcoming_seen purpose e u ≡ NextComparison.next_after (setup_of rules.now) compared after found event) }
 {
     match after {
         After::First => next_turn(alloc, rules, compared, rules.budget + 1, found, event),
@@ -191,15 +192,15 @@ fn improving(
     requires config { IsConfig rules.now.space current }
     requires event { event < 2 ^ 59 }
     requires within { compared ≤ rules.now.budget }
-    ensures { (purpose : Pending) (e : ℕ) → IfOk result (λ u. upcoming_seen purpose e u ≡ NextComparison.next_among after (NextComparison.next_after (setup_of rules.now) compared after) left current neighbours.items event) }
+    ensures { (purpose : Purpose) (e : ℕ) → IfOk result (λ u. upcoming_seen purpose e u ≡ NextComparison.next_among after (NextComparison.next_after (setup_of rules.now) compared after) left current neighbours.items event) }
 {
     match first_among(after, left, current, neighbours)? {
         Among::Compared {
-            pending,
+            purpose,
             first,
             second,
         } => Ok(Upcoming::Begin {
-            pending,
+            purpose,
             first,
             second,
             event,
@@ -221,7 +222,7 @@ fn next_tried(
     requires config { IsConfig rules.now.space current }
     requires event { event < 2 ^ 58 }
     requires within { compared ≤ rules.now.budget }
-    ensures { (purpose : Pending) (e : ℕ) → IfOk result (λ u. upcoming_seen purpose e u ≡ NextComparison.next_tried (setup_of rules.now) compared more current event) }
+    ensures { (purpose : Purpose) (e : ℕ) → IfOk result (λ u. upcoming_seen purpose e u ≡ NextComparison.next_tried (setup_of rules.now) compared more current event) }
 {
     if more == 0 {
         let around = neighbours_in_order(alloc, rules, &current, event)?;
@@ -240,7 +241,7 @@ fn next_tried(
     let challenger = random_config(alloc, rules, event)?;
     let (first, second) = (challenger.copy()?, current.copy()?);
     Ok(Upcoming::Begin {
-        pending: Pending::Trying {
+        purpose: Purpose::Trying {
             more: more - 1,
             challenger,
             current,
@@ -264,7 +265,7 @@ fn next_won(
     requires config { IsConfig rules.now.space winner.now }
     requires event { event < 2 ^ 58 }
     requires within { compared ≤ rules.now.budget }
-    ensures { (purpose : Pending) (e : ℕ) → IfOk result (λ u. upcoming_seen purpose e u ≡ NextComparison.next_among after.now (NextComparison.next_after (setup_of rules.now) compared after.now) left winner.now (NextComparison.neighbours_in_order (setup_of rules.now) winner.now event) (event + 1)) }
+    ensures { (purpose : Purpose) (e : ℕ) → IfOk result (λ u. upcoming_seen purpose e u ≡ NextComparison.next_among after.now (NextComparison.next_after (setup_of rules.now) compared after.now) left winner.now (NextComparison.neighbours_in_order (setup_of rules.now) winner.now event) (event + 1)) }
 {
     let around = neighbours_in_order(alloc, rules, winner, event)?;
     let (after, current) = (after.copy()?, winner.copy()?);
@@ -292,7 +293,7 @@ fn next_restarted(
     requires config { IsConfig rules.now.space best.now }
     requires event { event < 2 ^ 58 }
     requires within { compared ≤ rules.now.budget }
-    ensures { (purpose : Pending) (e : ℕ) → IfOk result (λ u. upcoming_seen purpose e u ≡ NextComparison.next_restarted (setup_of rules.now) compared more best.now event) }
+    ensures { (purpose : Purpose) (e : ℕ) → IfOk result (λ u. upcoming_seen purpose e u ≡ NextComparison.next_restarted (setup_of rules.now) compared more best.now event) }
 {
     if restarts(rules, event) {
         let anew = random_config(alloc, rules, event + 1)?;
@@ -315,7 +316,7 @@ fn next_along(
     requires config { IsConfig rules.now.space current.now }
     requires event { event < 2 ^ 59 }
     requires within { compared ≤ rules.now.budget }
-    ensures { IfOk result (λ u. upcoming_seen (Pending.Improving after.now left current.now around.now) event u ≡ NextComparison.next_among after.now (NextComparison.next_after (setup_of rules.now) compared after.now) left current.now around.now.rest event) }
+    ensures { IfOk result (λ u. upcoming_seen (Purpose.Improving after.now left current.now around.now) event u ≡ NextComparison.next_among after.now (NextComparison.next_after (setup_of rules.now) compared after.now) left current.now around.now.rest event) }
 {
     let Some(neighbour) = around.next() else {
         let (after, found) = (after.copy()?, current.copy()?);
@@ -341,21 +342,21 @@ pub(crate) fn next(
     alloc: Global,
     rules: &Rules,
     compared: u32,
-    pending: &Pending,
+    purpose: &Purpose,
     won: bool,
     event: u64,
 ) -> Result<Upcoming, Memory>
-    requires allowed { IsPendingAllowed (IsConfig rules.now.space) pending.now }
+    requires allowed { IsPurposeAllowed (IsConfig rules.now.space) purpose.now }
     requires event { event < 2 ^ 57 }
     requires within { compared ≤ rules.now.budget }
-    ensures { IfOk result (λ u. upcoming_seen pending.now event u ≡ NextComparison.next (setup_of rules.now) compared pending.now won event) }
+    ensures { IfOk result (λ u. upcoming_seen purpose.now event u ≡ NextComparison.next (setup_of rules.now) compared purpose.now won event) }
 {
-    match pending {
-        Pending::Opening => {
+    match purpose {
+        Purpose::Opening => {
             let start = rules.space.default_config()?;
             next_tried(alloc, rules, compared, rules.initial, start, event)
         }
-        Pending::Trying {
+        Purpose::Trying {
             more,
             challenger,
             current,
@@ -363,7 +364,7 @@ pub(crate) fn next(
             let kept = chosen(won, challenger, current).copy()?;
             next_tried(alloc, rules, compared, *more, kept, event)
         }
-        Pending::Improving {
+        Purpose::Improving {
             after,
             left,
             current,
@@ -376,7 +377,7 @@ pub(crate) fn next(
                 next_along(alloc, rules, compared, after, *left, current, around, event)
             }
         }
-        Pending::Returning { more, found, ils } => {
+        Purpose::Returning { more, found, ils } => {
             let best = chosen(won, found, ils);
             next_restarted(alloc, rules, compared, *more, best, event)
         }

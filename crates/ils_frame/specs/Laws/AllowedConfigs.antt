@@ -3,12 +3,12 @@ use Rattle.std.proofs.Common.{ℕ, zero, suc, ◌+◌, ◌-◌, Bool, true, fals
 use Rattle.uncapped.specs.Procedure.{Settings}
 use Rattle.uncapped.specs.Setup.{Setup}
 use Rattle.uncapped.specs.Searching.{or_stay}
-use Rattle.ils_frame.specs.declared.pending.After.{After}
-use Rattle.ils_frame.specs.declared.pending.After.TheVariants.{First, Turn}
-use Rattle.ils_frame.specs.declared.pending.Pending.{Pending}
-use Rattle.ils_frame.specs.declared.pending.Pending.TheVariants.{Opening, Trying, Improving, Returning}
+use Rattle.ils_frame.specs.declared.purpose.After.{After}
+use Rattle.ils_frame.specs.declared.purpose.After.TheVariants.{First, Turn}
+use Rattle.ils_frame.specs.declared.purpose.Purpose.{Purpose}
+use Rattle.ils_frame.specs.declared.purpose.Purpose.TheVariants.{Opening, Trying, Improving, Returning}
 use Rattle.ils_frame.specs.NextComparison.{Next, Compare, Finish, Reached, neighbours_in_order, random_step, perturbation, next_among, next_return, next_far, next_turn, next_after, next_tried, next}
-use Rattle.ils_frame.specs.AllowedPending.{AreAllowed, IsAfterAllowed, IsPendingAllowed}
+use Rattle.ils_frame.specs.AllowedPurposes.{AreAllowed, IsAfterAllowed, IsPurposeAllowed}
 
 module _ (allowed : Settings → Type 0) where
   -- what is drawn is allowed
@@ -20,7 +20,7 @@ module _ (allowed : Settings → Type 0) where
 
   -- the next comparison is of allowed configurations
   abbrev pub IsNextAllowed : Next → Type 0
-  IsNextAllowed (Compare purpose θ φ e) = IsPendingAllowed allowed purpose × allowed θ × allowed φ
+  IsNextAllowed (Compare purpose θ φ e) = IsPurposeAllowed allowed purpose × allowed θ × allowed φ
   IsNextAllowed (Finish e) = Unit {0}
 
   chosen : (b : Bool) (θ φ : Settings) → allowed θ → allowed φ → allowed (if b then θ else φ)
@@ -62,7 +62,7 @@ module _ (allowed : Settings → Type 0) where
     tried-allowed m zero current e a = among-allowed First (next_after setup m First) tt (after-allowed m First tt) (setup.budget - m) current (neighbours_in_order setup current e) (e + 1) a (draws.around e current a)
     tried-allowed m (suc n) current e a = ((draws.random e, a), draws.random e, a)
 
-    pub next-allowed : (m : ℕ) (purpose : Pending) (won : Bool) (e : ℕ) → IsPendingAllowed allowed purpose → IsNextAllowed (next setup m purpose won e)
+    pub next-allowed : (m : ℕ) (purpose : Purpose) (won : Bool) (e : ℕ) → IsPurposeAllowed allowed purpose → IsNextAllowed (next setup m purpose won e)
     next-allowed m Opening won e n = tried-allowed m setup.initial setup.start e draws.start
     next-allowed m (Trying more θ current) won e n = tried-allowed m more (if won then θ else current) e (chosen won θ current n.0 n.1)
     next-allowed m (Improving after left θ tried) true e n = among-allowed after (next_after setup m after) n.0 (after-allowed m after n.0) left tried.neighbour (neighbours_in_order setup tried.neighbour e) (e + 1) n.2 (draws.around e tried.neighbour n.2)

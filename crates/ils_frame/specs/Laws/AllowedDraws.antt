@@ -11,7 +11,7 @@ use Rattle.seeded_order.proofs.RandomConfigs.{random_is_config}
 use Rattle.uncapped.specs.Procedure.{Settings}
 use Rattle.ils_face.specs.Rules.{Rules, AreRules}
 use Rattle.ils_face.specs.Setups.{stream_of, configs_at, one_from, setup_of}
-use Rattle.ils_frame.specs.AllowedPending.{AreAllowed}
+use Rattle.ils_frame.specs.AllowedPurposes.{AreAllowed}
 use Rattle.ils_frame.specs.Laws.AllowedConfigs.{DrawsAllowed}
 
 module _ (allowed : Settings → Type 0) where

@@ -13,7 +13,7 @@ use Rattle.ils_face.proofs.QuietTables.{quiet-through}
 use Rattle.ils_face.proofs.FittingReplies.{reply_fits}
 use Rattle.ils_face.proofs.AbortedRuns.{aborts_met}
 use Rattle.uncapped.specs.Totals.{quiet}
-use Rattle.ils_frame.specs.declared.pending.Pending.TheVariants.{Opening}
+use Rattle.ils_frame.specs.declared.purpose.Purpose.TheVariants.{Opening}
 use Rattle.ils_frame.specs.Comparers.{decision_in, Parts, IsSteadyComparer, additions_after, opened_state, Keeps}
 use Rattle.ils_frame.specs.Laws.NextSteps.{continuation, bind_assoc}
 use Rattle.ils_frame.specs.Machine.{Machine, first_machine, view_of, shown_after}

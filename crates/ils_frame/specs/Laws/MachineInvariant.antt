@@ -7,13 +7,13 @@ use Rattle.uncapped.specs.Procedure.{Settings, Question, Incumbent}
 use Rattle.uncapped.specs.Setup.{Setup}
 use Rattle.ils_face.specs.declared.asks.Reply.{Reply}
 use Rattle.ils_face.specs.Replies.{Fits, ask_of}
-use Rattle.ils_frame.specs.declared.pending.Pending.{Pending}
-use Rattle.ils_frame.specs.declared.pending.Pending.TheVariants.{Opening}
+use Rattle.ils_frame.specs.declared.purpose.Purpose.{Purpose}
+use Rattle.ils_frame.specs.declared.purpose.Purpose.TheVariants.{Opening}
 use Rattle.ils_frame.specs.Comparers.{AskedStage, Ready, Asking, Decided, is_asking, question_in, decision_in, Parts, SameIncumbent, NewIncumbent, Answered, Begun, IsSteadyComparer}
 use Rattle.ils_frame.specs.NextComparison.{Next, Compare, Finish, next}
 use Rattle.ils_frame.specs.Machine.{Machine, begin, settle, first_machine, next_machine, answers_left, view_of}
 use Rattle.ils_frame.specs.Laws.AllowedConfigs.{DrawsAllowed, IsNextAllowed, next-allowed}
-use Rattle.ils_frame.specs.AllowedPending.{IsPendingAllowed}
+use Rattle.ils_frame.specs.AllowedPurposes.{IsPurposeAllowed}
 use Rattle.ils_frame.specs.Laws.TurnsLeft.{IsSpare, IsNextSpare, next-spare, IsDrawnBy, next-drawn}
 
 -- the draws up to the next comparison, at most: an order, the random steps, a coin and a random configuration
@@ -38,8 +38,8 @@ module _ {S : Type 0} (parts : Parts S) (fit : S → Type 0) (setup : Setup) (al
     pub stays_fit : fit f.comparer
     pub within : compared f.comparer ≤ setup.budget
     pub asks : is_asking (parts.stage f.comparer) ≡ not f.over
-    pub named : IsPendingAllowed allowed f.pending
-    pub spared : f.over ≡ false → IsSpare setup (compared f.comparer) f.pending
+    pub named : IsPurposeAllowed allowed f.purpose
+    pub spared : f.over ≡ false → IsSpare setup (compared f.comparer) f.purpose
     pub spent : f.over ≡ true → compared f.comparer ≡ setup.budget
     pub drawn : f.over ≡ false → f.event ≤ most_draws * (compared f.comparer + 1)
 
@@ -73,8 +73,8 @@ module _ {S : Type 0} (parts : Parts S) (fit : S → Type 0) (setup : Setup) (al
     where
       next_one : Bool → Machine S
       next_one over = if over
-          then record { comparer = c; pending = purpose; event = e; over = true }
-          else record { comparer = parts.begun c θ φ (compared c + 1); pending = purpose; event = e; over = false }
+          then record { comparer = c; purpose = purpose; event = e; over = true }
+          else record { comparer = parts.begun c θ φ (compared c + 1); purpose = purpose; event = e; over = false }
 
       smaller : (more less l x : ℕ) → more ≡ suc less → l ≤ 8 * setup.max_runs + 16 → answers_left parts setup less + l ≤ answers_left parts setup more + x
       smaller more less l x e h = rw e (omega (arith, h))
@@ -105,12 +105,12 @@ module _ {S : Type 0} (parts : Parts S) (fit : S → Type 0) (setup : Setup) (al
           }
 
   -- what is kept for what follows a comparison
-  record IsKept (c : S) (purpose : Pending) (e : ℕ) : Type 0 where
-    named : IsPendingAllowed allowed purpose
+  record IsKept (c : S) (purpose : Purpose) (e : ℕ) : Type 0 where
+    named : IsPurposeAllowed allowed purpose
     spared : IsSpare setup (compared c) purpose
     drawn : e ≤ most_draws * (compared c + 1)
 
-  settled_at : (c : S) → fit c → compared c ≤ setup.budget → (purpose : Pending) (e : ℕ) → IsKept c purpose e → (p : AskedStage) → parts.stage c ≡ p → IsSettled c (settle parts setup c purpose e (decision_in p))
+  settled_at : (c : S) → fit c → compared c ≤ setup.budget → (purpose : Purpose) (e : ℕ) → IsKept c purpose e → (p : AskedStage) → parts.stage c ≡ p → IsSettled c (settle parts setup c purpose e (decision_in p))
   unfolding settle
   settled_at c f w purpose e k (Asking q) t = record {
     fitting = record { stays_fit = f; within = w; asks = ap is_asking t; named = k.named; spared = λ o. k.spared; spent = λ o. not_both o; drawn = λ o. k.drawn };
@@ -125,7 +125,7 @@ module _ {S : Type 0} (parts : Parts S) (fit : S → Type 0) (setup : Setup) (al
       (next-allowed allowed setup draws (compared c) purpose b e k.named) (next-spare setup (compared c) w purpose b e k.spared)
       (next-drawn setup (compared c) (most_draws * (compared c + 2)) purpose b e (let d = k.drawn in omega (arith, d, few_steps)))
 
-  settled : (c : S) → fit c → compared c ≤ setup.budget → (purpose : Pending) (e : ℕ) → IsKept c purpose e → IsSettled c (settle parts setup c purpose e (decision_in (parts.stage c)))
+  settled : (c : S) → fit c → compared c ≤ setup.budget → (purpose : Purpose) (e : ℕ) → IsKept c purpose e → IsSettled c (settle parts setup c purpose e (decision_in (parts.stage c)))
   settled c f w purpose e k = settled_at c f w purpose e k (parts.stage c) refl
 
   pub first_machine-settled : IsSettled first (first_machine parts setup first)
@@ -156,7 +156,7 @@ module _ {S : Type 0} (parts : Parts S) (fit : S → Type 0) (setup : Setup) (al
   pub next_machine-settled : (f : Machine S) (q : Question) (r : Reply) → IsFitting f → parts.stage f.comparer ≡ Asking q → Answered parts fit f.comparer q r → IsSettled (parts.after f.comparer r) (next_machine parts setup f r)
   next_machine-settled f q r k e a =
       let w : compared f.comparer ≤ setup.budget = k.within in
-      settled (parts.after f.comparer r) a.stays_fit (rw a.compared w) f.pending f.event
+      settled (parts.after f.comparer r) a.stays_fit (rw a.compared w) f.purpose f.event
       (record { named = k.named; spared = rw a.compared (k.spared (live f q k e)); drawn = rw a.compared (k.drawn (live f q k e)) })
 
   pub replies : (f : Machine S) (q : Question) (r : Reply) → IsFitting f → parts.stage f.comparer ≡ Asking q → Fits (ask_of q.config q.places q.bound) r → Replied f q r

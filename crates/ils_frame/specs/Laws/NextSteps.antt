@@ -3,10 +3,10 @@ use Rattle.std.proofs.Common.{ℕ, zero, suc, ◌≡◌, ◌+◌, ◌-◌, Bool,
 use Rattle.uncapped.specs.Procedure.{Settings, PlainState, Step, Goes, Ends, Procedure, goes_on, ◌>>=◌, Finished, draw}
 use Rattle.uncapped.specs.Setup.{Setup}
 use Rattle.uncapped.specs.Searching.{compare, improve_among, improve, try_random, perturb, search_on, around}
-use Rattle.ils_frame.specs.declared.pending.After.{After}
-use Rattle.ils_frame.specs.declared.pending.After.TheVariants.{First, Turn}
-use Rattle.ils_frame.specs.declared.pending.Pending.{Pending}
-use Rattle.ils_frame.specs.declared.pending.Pending.TheVariants.{Opening, Trying, Improving, Returning}
+use Rattle.ils_frame.specs.declared.purpose.After.{After}
+use Rattle.ils_frame.specs.declared.purpose.After.TheVariants.{First, Turn}
+use Rattle.ils_frame.specs.declared.purpose.Purpose.{Purpose}
+use Rattle.ils_frame.specs.declared.purpose.Purpose.TheVariants.{Opening, Trying, Improving, Returning}
 use Rattle.ils_frame.specs.NextComparison.{Next, Compare, Finish, Reached, neighbours_in_order, random_step, perturbation, next_among, next_return, next_far, next_turn, next_after, next_improved, next_tried, next}
 
 module _ (setup : Setup) (better : Settings → Settings → Procedure Bool) where
@@ -37,7 +37,7 @@ module _ (setup : Setup) (better : Settings → Settings → Procedure Bool) whe
   try_from more current = try_random setup better more current >>= λ current. improve setup better current >>= search_from
 
   -- what follows the present comparison
-  abbrev pub continuation : Pending → Bool → Procedure (Unit {0})
+  abbrev pub continuation : Purpose → Bool → Procedure (Unit {0})
   continuation Opening won = try_from setup.initial setup.start
   continuation (Trying more θ current) won = try_from more (if won then θ else current)
   continuation (Improving after left θ tried) won = go_on left θ tried.neighbour tried.rest won >>= finish after
@@ -111,7 +111,7 @@ module _ (setup : Setup) (better : Settings → Settings → Procedure Bool) whe
   tries (suc n) current s = bind_assoc (compare setup better (setup.random s.event) current (at_event s (s.event + 1))) _ _
 
   -- what follows the present comparison is the next one with all that follows it
-  pub nexts : (purpose : Pending) (won : Bool) (s : PlainState) → continuation setup better purpose won s ≡ run_next setup better (next setup s.compared purpose won s.event) s
+  pub nexts : (purpose : Purpose) (won : Bool) (s : PlainState) → continuation setup better purpose won s ≡ run_next setup better (next setup s.compared purpose won s.event) s
   nexts Opening won s = tries setup.initial setup.start s
   nexts (Trying more θ current) won s = tries more (if won then θ else current) s
   nexts (Improving after left θ tried) true s = amongs s.compared after left tried.neighbour (neighbours_in_order setup tried.neighbour s.event) (at_event s (s.event + 1)) refl ∙ anywhere (next_among after (next_after setup s.compared after) left tried.neighbour (neighbours_in_order setup tried.neighbour s.event) (s.event + 1)) s (s.event + 1)

@@ -11,7 +11,7 @@ use Rattle.ils_face.specs.declared.asks.Reply.{Reply}
 use Rattle.ils_face.specs.Replies.{Fits, ask_of, reply_up_to, cost_asked, reply_to}
 use Rattle.ils_frame.specs.Comparers.{AskedStage, Ready, Asking, Decided, is_asking, question_in, Parts, IsSteadyComparer, additions_after, Keeps}
 use Rattle.ils_frame.specs.Machine.{Machine, next_machine, after_all, view_of}
-use Rattle.ils_frame.specs.Laws.StandsFor.{answered_state, search_coming, IsSound, Turn, turns, aborts, finishes}
+use Rattle.ils_frame.specs.Laws.StandsFor.{answered_state, search_coming, IsSound, StandsAfter, stands_after, aborts, finishes}
 use Rattle.ils_frame.specs.Laws.AllowedConfigs.{DrawsAllowed}
 use Rattle.ils_frame.specs.Laws.MachineInvariant.{Replied, replies, not-asking}
 
@@ -163,7 +163,7 @@ module _ {S : Type 0} (parts : Parts S) (fit : S → Type 0) (stands : S → Pla
     unfolding after_all
     on rs = ap (λ r. after_all parts setup (next_machine parts setup f r) rs) replied_so
 
-    goes_on_playing : Turn parts fit stands coming better opening setup sums first keeps allowed draws few_steps steady fitting f s q (reply_up_to x q.bound) → PlaysFrom g u → PlaysFrom f s
+    goes_on_playing : StandsAfter parts fit stands coming better opening setup sums first keeps allowed draws few_steps steady fitting f s q (reply_up_to x q.bound) → PlaysFrom g u → PlaysFrom f s
     unfolding after_all
     goes_on_playing t p = rw t.same (record {
       rest = q ∷ p.rest;
@@ -242,7 +242,7 @@ module _ {S : Type 0} (parts : Parts S) (fit : S → Type 0) (stands : S → Pla
       at_cost : IH → (q : Question) → parts.stage f.comparer ≡ Asking q → (o : Option ℕ) → cost_asked sums q ≡ o → PlaysFrom f s
       at_cost ih q e None c = stopped f s q k e c
       at_cost ih q e (Some x) c =
-          let t : Turn parts fit stands coming better opening setup sums first keeps allowed draws few_steps steady fitting f s q (reply_up_to x q.bound) = turns parts fit stands coming better opening setup sums first keeps allowed draws few_steps steady fitting f s q x k e c in
+          let t : StandsAfter parts fit stands coming better opening setup sums first keeps allowed draws few_steps steady fitting f s q (reply_up_to x q.bound) = stands_after parts fit stands coming better opening setup sums first keeps allowed draws few_steps steady fitting f s q x k e c in
           let n : Replied parts fit setup allowed draws few_steps first steady f q (reply_up_to x q.bound) = replies parts fit setup allowed draws few_steps first steady f q (reply_up_to x q.bound) k.stays_fitting e (fitting q x) in
           let m : (view_of parts setup (next_machine parts setup f (reply_up_to x q.bound))).left < (view_of parts setup f).left = n.falls in
           goes_on_playing f s q x e c t (ih (next_machine parts setup f (reply_up_to x q.bound)) (answered_state parts setup f (reply_up_to x q.bound) s) t.sound (omega (arith, h, m)))

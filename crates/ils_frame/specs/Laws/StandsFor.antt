@@ -8,7 +8,7 @@ use Rattle.uncapped.specs.Evaluation.{after_ask}
 use Rattle.uncapped.specs.Searching.{compare}
 use Rattle.ils_face.specs.declared.asks.Reply.{Reply}
 use Rattle.ils_face.specs.Replies.{Fits, ask_of, reply_up_to, cost_asked}
-use Rattle.ils_frame.specs.declared.pending.Pending.{Pending}
+use Rattle.ils_frame.specs.declared.purpose.Purpose.{Purpose}
 use Rattle.ils_frame.specs.Comparers.{AskedStage, Ready, Asking, Decided, is_asking, question_in, decision_in, Parts, Answered, IsSteadyComparer, additions_after, GoesOn, Starts, Keeps}
 use Rattle.ils_frame.specs.NextComparison.{Next, Compare, Finish, next}
 use Rattle.ils_frame.specs.Laws.NextSteps.{continuation, run_next, at_event, nexts}
@@ -24,22 +24,22 @@ module _ {S : Type 0} (parts : Parts S) (setup : Setup) where
       else parts.started c θ φ ((parts.last c).compared + 1) (record s { event = e })
   begin_state c (Finish e) s = record s { event = e }
 
-  unfoldable pub settle_state : S → Pending → ℕ → Option Bool → PlainState → PlainState
+  unfoldable pub settle_state : S → Purpose → ℕ → Option Bool → PlainState → PlainState
   settle_state c purpose e None s = s
   settle_state c purpose e (Some won) s = begin_state c (next setup (parts.last c).compared purpose won e) s
 
   -- the state after one more reply
   abbrev pub answered_state : Machine S → Reply → PlainState → PlainState
-  answered_state f r s = settle_state (parts.after f.comparer r) f.pending f.event (decision_in (parts.stage (parts.after f.comparer r))) (parts.replied f.comparer r s)
+  answered_state f r s = settle_state (parts.after f.comparer r) f.purpose f.event (decision_in (parts.stage (parts.after f.comparer r))) (parts.replied f.comparer r s)
 
   -- what is to come of the search
   module _ (better : Settings → Settings → Procedure Bool) (coming : S → Procedure Bool) where
-    abbrev pub coming_at : Bool → S → Pending → Procedure (Unit {0})
+    abbrev pub coming_at : Bool → S → Purpose → Procedure (Unit {0})
     coming_at true c purpose = stop Finished
     coming_at false c purpose = coming c >>= continuation setup better purpose
 
     abbrev pub search_coming : Machine S → Procedure (Unit {0})
-    search_coming f = coming_at f.over f.comparer f.pending
+    search_coming f = coming_at f.over f.comparer f.purpose
 
 -- a comparison that still has its place in the budget
 compares : (setup : Setup) (better : Settings → Settings → Procedure Bool) (θ φ : Settings) (s : PlainState) → (s.compared == setup.budget) ≡ false → compare setup better θ φ s ≡ better θ φ (record s { compared = s.compared + 1 })
@@ -67,8 +67,8 @@ module _ {S : Type 0} (parts : Parts S) (fit : S → Type 0) (stands : S → Pla
     where
       machine : Bool → Machine S
       machine over = if over
-          then record { comparer = c; pending = purpose; event = e; over = true }
-          else record { comparer = parts.begun c θ φ ((parts.last c).compared + 1); pending = purpose; event = e; over = false }
+          then record { comparer = c; purpose = purpose; event = e; over = true }
+          else record { comparer = parts.begun c θ φ ((parts.last c).compared + 1); purpose = purpose; event = e; over = false }
 
       moved : Bool → PlainState
       moved over = if over then at_event s e else parts.started c θ φ ((parts.last c).compared + 1) (at_event s e)
@@ -87,7 +87,7 @@ module _ {S : Type 0} (parts : Parts S) (fit : S → Type 0) (stands : S → Pla
           ∙ ap (λ n. better θ φ (record (at_event s e) { compared = n + 1 })) number ∙ started.same)
 
   -- where a comparison was decided, the next one begins
-  settles_at : (c : S) (s : PlainState) → fit c → stands c s → (purpose : Pending) (p : AskedStage) → parts.stage c ≡ p
+  settles_at : (c : S) (s : PlainState) → fit c → stands c s → (purpose : Purpose) (p : AskedStage) → parts.stage c ≡ p
       → (coming c >>= continuation setup better purpose) s ≡ coming_of (settle parts setup c purpose s.event (decision_in p)) (settle_state parts setup c purpose s.event (decision_in p) s)
   unfolding settle settle_state
   settles_at c s f h purpose (Asking q) e = refl
@@ -102,7 +102,7 @@ module _ {S : Type 0} (parts : Parts S) (fit : S → Type 0) (stands : S → Pla
       ∙ ap (λ m. run_next setup better (next setup m purpose b s.event) s) (same_number c s f h)
       ∙ begins c s f h (ap question_in e) (next setup (parts.last c).compared purpose b s.event)
 
-  pub settles : (c : S) (s : PlainState) → fit c → stands c s → (purpose : Pending) (e : ℕ) → s.event ≡ e
+  pub settles : (c : S) (s : PlainState) → fit c → stands c s → (purpose : Purpose) (e : ℕ) → s.event ≡ e
       → (coming c >>= continuation setup better purpose) s ≡ coming_of (settle parts setup c purpose e (decision_in (parts.stage c))) (settle_state parts setup c purpose e (decision_in (parts.stage c)) s)
   settles c s f h purpose e k = subst (λ n. (coming c >>= continuation setup better purpose) s ≡ coming_of (settle parts setup c purpose n (decision_in (parts.stage c))) (settle_state parts setup c purpose n (decision_in (parts.stage c)) s)) k
       (settles_at c s f h purpose (parts.stage c) refl)
@@ -120,8 +120,8 @@ module _ {S : Type 0} (parts : Parts S) (fit : S → Type 0) (stands : S → Pla
     where
       machine : Bool → Machine S
       machine over = if over
-          then record { comparer = c; pending = purpose; event = e; over = true }
-          else record { comparer = parts.begun c θ φ ((parts.last c).compared + 1); pending = purpose; event = e; over = false }
+          then record { comparer = c; purpose = purpose; event = e; over = true }
+          else record { comparer = parts.begun c θ φ ((parts.last c).compared + 1); purpose = purpose; event = e; over = false }
 
       moved : Bool → PlainState
       moved over = if over then at_event s e else parts.started c θ φ ((parts.last c).compared + 1) (at_event s e)
@@ -133,14 +133,14 @@ module _ {S : Type 0} (parts : Parts S) (fit : S → Type 0) (stands : S → Pla
       at_either true = record { stays = keeps.redrawn c s e h; event = λ o. refl; asks = refl; entries = refl }
       at_either false = record { stays = started.stays; event = λ o. started.unasked.event; asks = started.unasked.asks; entries = started.unasked.entries }
 
-  settle_stands_at : (c : S) (s : PlainState) → fit c → stands c s → (purpose : Pending) (e : ℕ) → s.event ≡ e → (p : AskedStage) → parts.stage c ≡ p
+  settle_stands_at : (c : S) (s : PlainState) → fit c → stands c s → (purpose : Purpose) (e : ℕ) → s.event ≡ e → (p : AskedStage) → parts.stage c ≡ p
       → StandsFor s (settle parts setup c purpose e (decision_in p)) (settle_state parts setup c purpose e (decision_in p) s)
   unfolding settle settle_state
   settle_stands_at c s f h purpose e k (Asking q) t = record { stays = h; event = λ o. k; asks = refl; entries = refl }
   settle_stands_at c s f h purpose e k Ready t = begin_stands c s f h (ap question_in t) (next setup (parts.last c).compared purpose false e)
   settle_stands_at c s f h purpose e k (Decided b) t = begin_stands c s f h (ap question_in t) (next setup (parts.last c).compared purpose b e)
 
-  pub settle_stands : (c : S) (s : PlainState) → fit c → stands c s → (purpose : Pending) (e : ℕ) → s.event ≡ e
+  pub settle_stands : (c : S) (s : PlainState) → fit c → stands c s → (purpose : Purpose) (e : ℕ) → s.event ≡ e
       → StandsFor s (settle parts setup c purpose e (decision_in (parts.stage c))) (settle_state parts setup c purpose e (decision_in (parts.stage c)) s)
   settle_stands c s f h purpose e k = settle_stands_at c s f h purpose e k (parts.stage c) refl
 
@@ -153,29 +153,29 @@ module _ {S : Type 0} (parts : Parts S) (fit : S → Type 0) (stands : S → Pla
       pub event : f.over ≡ false → s.event ≡ f.event
 
     -- one known cost: what is to come stays the same, with one more ask and the entries that it adds
-    pub record Turn (f : Machine S) (s : PlainState) (q : Question) (r : Reply) : Type 0 where
+    pub record StandsAfter (f : Machine S) (s : PlainState) (q : Question) (r : Reply) : Type 0 where
       pub sound : IsSound (next_machine parts setup f r) (answered_state parts setup f r s)
       pub same : coming_of f s ≡ coming_of (next_machine parts setup f r) (answered_state parts setup f r s)
       pub asks : (answered_state parts setup f r s).asks ≡ s.asks ++ q ∷ []
       pub entries : (answered_state parts setup f r s).entries ≡ s.entries ++ additions_after (length s.asks + 1) (parts.added f.comparer r)
       pub grown : parts.entries (next_machine parts setup f r).comparer ≡ parts.entries f.comparer ++ parts.added f.comparer r
 
-    live_coming : (f : Machine S) (s : PlainState) → f.over ≡ false → coming_of f s ≡ (coming f.comparer >>= continuation setup better f.pending) s
+    live_coming : (f : Machine S) (s : PlainState) → f.over ≡ false → coming_of f s ≡ (coming f.comparer >>= continuation setup better f.purpose) s
     live_coming f s o = rw o refl
 
-    pub turns : (f : Machine S) (s : PlainState) (q : Question) (x : ℕ) → IsSound f s → parts.stage f.comparer ≡ Asking q → cost_asked sums q ≡ Some x → Turn f s q (reply_up_to x q.bound)
-    turns f s q x k e known =
+    pub stands_after : (f : Machine S) (s : PlainState) (q : Question) (x : ℕ) → IsSound f s → parts.stage f.comparer ≡ Asking q → cost_asked sums q ≡ Some x → StandsAfter f s q (reply_up_to x q.bound)
+    stands_after f s q x k e known =
         let r : Reply = reply_up_to x q.bound in
         let a : Answered parts fit f.comparer q r = steady.answered f.comparer q r k.stays_fitting.stays_fit e (fitting q x) in
         let g : GoesOn parts stands coming f.comparer s q r = keeps.answered f.comparer s q x k.stays_fitting.stays_fit k.stays e known in
         let o : f.over ≡ false = live parts fit setup allowed draws few_steps first steady f q k.stays_fitting e in
         let event : (parts.replied f.comparer r s).event ≡ f.event = g.advanced.event ∙ k.event o in
         let t : IsSettled parts fit setup allowed draws few_steps first steady (parts.after f.comparer r) (next_machine parts setup f r) = next_machine-settled parts fit setup allowed draws few_steps first steady f q r k.stays_fitting e a in
-        let u : StandsFor (parts.replied f.comparer r s) (next_machine parts setup f r) (answered_state parts setup f r s) = settle_stands (parts.after f.comparer r) (parts.replied f.comparer r s) a.stays_fit g.stays f.pending f.event event in
+        let u : StandsFor (parts.replied f.comparer r s) (next_machine parts setup f r) (answered_state parts setup f r s) = settle_stands (parts.after f.comparer r) (parts.replied f.comparer r s) a.stays_fit g.stays f.purpose f.event event in
         record {
           sound = record { stays_fitting = t.fitting; stays = u.stays; event = u.event };
-          same = live_coming f s o ∙ ap (λ a. goes_on a (continuation setup better f.pending)) g.same
-              ∙ settles (parts.after f.comparer r) (parts.replied f.comparer r s) a.stays_fit g.stays f.pending f.event event;
+          same = live_coming f s o ∙ ap (λ a. goes_on a (continuation setup better f.purpose)) g.same
+              ∙ settles (parts.after f.comparer r) (parts.replied f.comparer r s) a.stays_fit g.stays f.purpose f.event event;
           asks = u.asks ∙ g.advanced.asks;
           entries = u.entries ∙ g.advanced.entries;
           grown = t.same_entries ∙ a.grown;
@@ -185,7 +185,7 @@ module _ {S : Type 0} (parts : Parts S) (fit : S → Type 0) (stands : S → Pla
     pub aborts : (f : Machine S) (s : PlainState) (q : Question) → IsSound f s → parts.stage f.comparer ≡ Asking q → cost_asked sums q ≡ None → coming_of f s ≡ Ends (after_ask q.config q.places q.bound s) Aborted
     aborts f s q k e unknown =
         live_coming f s (live parts fit setup allowed draws few_steps first steady f q k.stays_fitting e)
-        ∙ ap (λ a. goes_on a (continuation setup better f.pending)) (keeps.aborts f.comparer s q k.stays_fitting.stays_fit k.stays e unknown)
+        ∙ ap (λ a. goes_on a (continuation setup better f.purpose)) (keeps.aborts f.comparer s q k.stays_fitting.stays_fit k.stays e unknown)
 
     over_at : (o : Bool) (p : AskedStage) → is_asking p ≡ not o → is_asking p ≡ false → o ≡ true
     over_at true p e z = refl

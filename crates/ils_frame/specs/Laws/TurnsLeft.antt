@@ -2,10 +2,10 @@
 use Rattle.std.proofs.Common.{ℕ, zero, suc, ◌≡◌, ◌+◌, ◌-◌, ◌≤◌, ◌<◌, Bool, true, false, List, [], ◌∷◌, if◌then◌else◌, refl, arith}
 use Rattle.uncapped.specs.Procedure.{Settings}
 use Rattle.uncapped.specs.Setup.{Setup}
-use Rattle.ils_frame.specs.declared.pending.After.{After}
-use Rattle.ils_frame.specs.declared.pending.After.TheVariants.{First, Turn}
-use Rattle.ils_frame.specs.declared.pending.Pending.{Pending}
-use Rattle.ils_frame.specs.declared.pending.Pending.TheVariants.{Opening, Trying, Improving, Returning}
+use Rattle.ils_frame.specs.declared.purpose.After.{After}
+use Rattle.ils_frame.specs.declared.purpose.After.TheVariants.{First, Turn}
+use Rattle.ils_frame.specs.declared.purpose.Purpose.{Purpose}
+use Rattle.ils_frame.specs.declared.purpose.Purpose.TheVariants.{Opening, Trying, Improving, Returning}
 use Rattle.ils_frame.specs.NextComparison.{Next, Compare, Finish, Reached, neighbours_in_order, random_step, perturbation, next_among, next_return, next_far, next_turn, next_after, next_tried, next}
 
 module _ (setup : Setup) where
@@ -15,7 +15,7 @@ module _ (setup : Setup) where
   IsAfterSpare m (Turn more ils) = setup.budget ≤ more + m
 
   -- the same, where m comparisons are begun
-  abbrev pub IsSpare : ℕ → Pending → Type 0
+  abbrev pub IsSpare : ℕ → Purpose → Type 0
   IsSpare m Opening = Unit {0}
   IsSpare m (Trying more θ current) = Unit {0}
   IsSpare m (Improving after left θ tried) = (left ≡ setup.budget - m) × IsAfterSpare m after
@@ -53,7 +53,7 @@ module _ (setup : Setup) where
     tried-spare zero current e = among-spare First (next_after setup m First) tt (after-spare First tt) (setup.budget - m) refl current (neighbours_in_order setup current e) (e + 1)
     tried-spare (suc n) current e = tt
 
-    pub next-spare : (purpose : Pending) (won : Bool) (e : ℕ) → IsSpare m purpose → IsNextSpare m (next setup m purpose won e)
+    pub next-spare : (purpose : Purpose) (won : Bool) (e : ℕ) → IsSpare m purpose → IsNextSpare m (next setup m purpose won e)
     next-spare Opening won e s = tried-spare setup.initial setup.start e
     next-spare (Trying more θ current) won e s = tried-spare more (if won then θ else current) e
     next-spare (Improving after left θ tried) true e s = among-spare after (next_after setup m after) s.1 (after-spare after s.1) left s.0 tried.neighbour (neighbours_in_order setup tried.neighbour e) (e + 1)
@@ -98,7 +98,7 @@ module _ (setup : Setup) where
     tried-drawn zero current e h = among-drawn First (next_after setup m First) (setup.budget - m) current (neighbours_in_order setup current e) (e + 1) (λ θ. after-drawn First θ (e + 1) (omega (arith, h))) (omega (arith, h))
     tried-drawn (suc n) current e h = omega (arith, h)
 
-    pub next-drawn : (purpose : Pending) (won : Bool) (e : ℕ) → setup.strength + e + 3 ≤ most → IsDrawnBy most (next setup m purpose won e)
+    pub next-drawn : (purpose : Purpose) (won : Bool) (e : ℕ) → setup.strength + e + 3 ≤ most → IsDrawnBy most (next setup m purpose won e)
     next-drawn Opening won e h = tried-drawn setup.initial setup.start e (omega (arith, h))
     next-drawn (Trying more θ current) won e h = tried-drawn more (if won then θ else current) e (omega (arith, h))
     next-drawn (Improving after left θ tried) true e h = among-drawn after (next_after setup m after) left tried.neighbour (neighbours_in_order setup tried.neighbour e) (e + 1) (λ θ. after-drawn after θ (e + 1) (omega (arith, h))) (omega (arith, h))

@@ -1,6 +1,6 @@
 use Rattle.std.proofs.Common.{rules, ◌≡◌, true, false, sym, ap, ◌∙◌}
 use Rattle.ils_face.specs.Setups.{setup_of}
-use Rattle.ils_frame.specs.declared.pending.Pending.TheVariants.{Opening}
+use Rattle.ils_frame.specs.declared.purpose.Purpose.TheVariants.{Opening}
 use Rattle.ils_frame.specs.Comparers.{is_asking}
 use Rattle.ils_frame.specs.NextComparison.{next}
 use Rattle.ils_frame.specs.Machine.{machine_of, begin}
@@ -12,7 +12,7 @@ returns-then-eq g c =
     let first = g.C.Comparer.at_open c.args.rules.now in
     let here : is_asking (g.C.Comparer.parts.stage c.args.comparer.now) ≡ true = search rules in
     let asks : is_asking (g.C.Comparer.parts.stage first) ≡ true = ap (λ d. is_asking (g.C.Comparer.parts.stage d)) (sym c.requires.opened) ∙ here in
-    ap (λ d. machine_of d (record { pending = Opening; event = 0; over = false })) c.requires.opened
+    ap (λ d. machine_of d (record { purpose = Opening; event = 0; over = false })) c.requires.opened
     ∙ opens-asking g.C.Comparer.parts first c.args.rules.now asks
 
 pub returns : goal.returns

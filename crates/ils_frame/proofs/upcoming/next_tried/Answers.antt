@@ -4,8 +4,8 @@ use Rattle.uncapped.specs.Procedure.{Settings}
 use Rattle.ils_face.specs.Rules.{Rules}
 use Rattle.ils_face.proofs.Setups.{SetupOf, setup_of-numbers}
 use Rattle.ils_face.specs.Setups.{setup_of}
-use Rattle.ils_frame.specs.declared.pending.After.TheVariants.{First}
-use Rattle.ils_frame.specs.declared.pending.Pending.TheVariants.{Trying}
+use Rattle.ils_frame.specs.declared.purpose.After.TheVariants.{First}
+use Rattle.ils_frame.specs.declared.purpose.Purpose.TheVariants.{Trying}
 use Rattle.ils_frame.specs.NextComparison.{Compare, next_among, next_after, next_tried}
 use Rattle.ils_frame.proofs.upcoming.next_tried.Goals as goal
 

@@ -2,7 +2,7 @@ use Rattle.std.proofs.Common.{◌≡◌, ◌+◌, ◌-◌, ◌∙◌, arith, rul
 use Rattle.std.proofs.lemmas.Result.{IfOk-weaker}
 use Rattle.ils_face.specs.Rules.{Rules}
 use Rattle.ils_face.specs.Setups.{setup_of}
-use Rattle.ils_frame.specs.declared.pending.After.TheVariants.{Turn}
+use Rattle.ils_frame.specs.declared.purpose.After.TheVariants.{Turn}
 use Rattle.ils_frame.specs.declared.upcoming.Among.TheVariants.{Compared, Spent, Over}
 use Rattle.ils_frame.specs.NextComparison.{next_after}
 use Rattle.ils_frame.specs.UpcomingComparison.{among_of, upcoming_seen}
@@ -12,7 +12,7 @@ use Rattle.ils_frame.proofs.upcoming.next_turn.Goals as goal
 pub returns-in-Compared : goal.returns-in-Compared
 returns-in-Compared c = λ purpose e.
     turn_made c.args.rules.now c.args.compared c.args.turns (c.args.turns - 1) c.args.ils c.in_ok-best.best c.in_ok-far.far c.args.event c.from.result (c.args.event + c.from.result) (c.rules.inside.budget - c.args.compared) c.in_ok-around.around.items
-    (Compared c.in-Compared.pending c.in-Compared.first c.in-Compared.second)
+    (Compared c.in-Compared.purpose c.in-Compared.first c.in-Compared.second)
     (omega (arith, c.if-turns-eq0.false)) (search rules ∙ ap (λ (r : Rules). r.strength) c.rules.view_is) refl (ap (λ (r : Rules). r.budget - c.args.compared) c.rules.view_is) c.in_ok-far.ensures.value c.in_ok-around.ensures c.in_ok-best.ensures (search rules)
 
 pub returns-in-Spent : goal.returns-in-Spent

@@ -71,10 +71,10 @@ invariant_of-self-2 g c =
       | in-Some+in_ok-upcoming-in-Some+in_ok-answer-in-Some w ↦
           let items : c.push_reserved.new.self.items ≡ old ++ c.args.reply ∷ [] = c.push_reserved.ensures.items ∙ rw (w.self-inside-is, c.in_ok-reserve.ensures.items) refl in
           let begun = w.begin.ensures
-          ∙ ap (λ (r : Rules). begin g.C.Comparer.parts (setup_of r) w.answer-in-Some.new.self (upcoming_seen c.self.inside.course.pending c.self.inside.course.event w.in_ok-upcoming-in-Some.upcoming)) w.deref-rules.ensures
+          ∙ ap (λ (r : Rules). begin g.C.Comparer.parts (setup_of r) w.answer-in-Some.new.self (upcoming_seen c.self.inside.course.purpose c.self.inside.course.event w.in_ok-upcoming-in-Some.upcoming)) w.deref-rules.ensures
           ∙ ap (begin g.C.Comparer.parts (setup_of kept) w.answer-in-Some.new.self) (w.in_ok-upcoming-in-Some.ensures
-          ∙ ap (λ (r : Rules). next (setup_of r) w.compared-compared.result c.self.inside.course.pending w.in-Some.won c.self.inside.course.event) w.deref-rules.ensures
-          ∙ ap (λ m. next (setup_of kept) m c.self.inside.course.pending w.in-Some.won c.self.inside.course.event) w.compared-compared.ensures) in
+          ∙ ap (λ (r : Rules). next (setup_of r) w.compared-compared.result c.self.inside.course.purpose w.in-Some.won c.self.inside.course.event) w.deref-rules.ensures
+          ∙ ap (λ m. next (setup_of kept) m c.self.inside.course.purpose w.in-Some.won c.self.inside.course.event) w.compared-compared.ensures) in
           rw w.self-inside-is (record {
             ruled = c.self.invariant.ruled;
             reached = one-more g.C.Comparer.parts first kept c.self.invariant.ruled (g.C.Comparer.fit kept) steady here _ old _ c.args.reply c.self.invariant.reached items
