@@ -4,5 +4,6 @@ pub mod Machine
 pub mod TriedNeighbours
 pub mod HeldReplies
 pub mod AllowedPurposes
+pub mod Moments
 pub mod UpcomingComparison
 pub mod Laws

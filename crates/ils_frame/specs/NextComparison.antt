@@ -56,9 +56,17 @@ module _ (setup : Setup) where
   next_after m First ils e = next_turn m (suc setup.budget) ils e
   next_after m (Turn more ils) θ e = next_return more ils θ e
 
+  -- an improvement goes on with these neighbours, or what follows it comes
+  abbrev pub next_improving : ℕ → After → ℕ → Settings → List Settings → ℕ → Next
+  next_improving m after left θ around e = next_among after (next_after m after) left θ around e
+
+  -- an improvement begins anew at a neighbour that has won
+  abbrev pub next_won : ℕ → After → ℕ → Settings → ℕ → Next
+  next_won m after left winner e = next_improving m after left winner (neighbours_in_order winner e) (e + 1)
+
   -- the first improvement begins
   abbrev pub next_improved : ℕ → Settings → ℕ → Next
-  next_improved m θ e = next_among First (next_after m First) (setup.budget - m) θ (neighbours_in_order θ e) (e + 1)
+  next_improved m θ e = next_won m First (setup.budget - m) θ e
 
   -- the next random configuration is tried, or else the first improvement begins
   abbrev pub next_tried : ℕ → ℕ → Settings → ℕ → Next
@@ -74,6 +82,6 @@ module _ (setup : Setup) where
   next m Opening won e = next_tried m setup.initial setup.start e
   next m (Trying more θ current) won e = next_tried m more (if won then θ else current) e
   next m (Improving after left θ tried) won e = if won
-      then next_among after (next_after m after) left tried.neighbour (neighbours_in_order tried.neighbour e) (e + 1)
-      else next_among after (next_after m after) left θ tried.rest e
+      then next_won m after left tried.neighbour e
+      else next_improving m after left θ tried.rest e
   next m (Returning more θ ils) won e = next_restarted m more (if won then θ else ils) e

@@ -1,5 +1,5 @@
 -- What is made ready before a comparison begins, as the next comparison that it stands for.
-use Rattle.std.specs.Prelude.{ℕ, zero, suc, ◌-◌, List, [], ◌∷◌}
+use Rattle.std.specs.Prelude.{ℕ, zero, suc, ◌-◌, ◌≡◌, List, [], ◌∷◌, Result, IfOk}
 use Rattle.uncapped.specs.Procedure.{Settings}
 use Rattle.ils_frame.specs.declared.purpose.After.{After}
 use Rattle.ils_frame.specs.declared.purpose.Purpose.{Purpose}
@@ -29,3 +29,7 @@ abbrev pub upcoming_seen : Purpose → ℕ → Upcoming → Next
 upcoming_seen purpose e (Along first second) = Compare (purpose_along purpose) first second e
 upcoming_seen purpose e (Begin next first second event) = Compare next first second event
 upcoming_seen purpose e (End event) = Finish event
+
+-- what is made ready is this next comparison, whatever the present one is for
+abbrev pub MakesReady : {E : Type 0} → Result Upcoming E → Next → Type 0
+MakesReady result next = (purpose : Purpose) (e : ℕ) → IfOk result (λ u. upcoming_seen purpose e u ≡ next)

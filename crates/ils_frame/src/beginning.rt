@@ -9,6 +9,7 @@ ghost use Rattle.ils_frame.specs.UpcomingComparison.{upcoming_seen};
 
 use crate::comparer::Comparer;
 use crate::course::Course;
+use crate::moment::Moment;
 use crate::purpose::Purpose;
 use crate::stage::Stage;
 use crate::upcoming::{Upcoming, next};
@@ -87,7 +88,12 @@ pub(crate) fn set_out<C: Comparer>(
         return Ok(course);
     }
     let compared = comparer.compared();
-    let upcoming = next(alloc, rules, compared, &course.purpose, false, 0)?;
+    let moment = Moment {
+        alloc,
+        compared,
+        event: 0,
+    };
+    let upcoming = next(rules, moment, &course.purpose, false)?;
     begin(comparer, &mut course, rules, upcoming);
     Ok(course)
 }

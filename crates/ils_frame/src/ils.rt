@@ -4,6 +4,7 @@ ghost use Rattle.std.specs.Prelude.{◌≡◌};
 use crate::beginning::{begin, set_out};
 use crate::comparer::Comparer;
 use crate::course::Course;
+use crate::moment::Moment;
 use crate::replies::Replies;
 use crate::stage::Stage;
 use crate::upcoming::next;
@@ -99,7 +100,12 @@ impl<C: Comparer> Search for Ils<C> {
                 let rules: &Rules = &self.rules;
                 let compared = self.comparer.compared();
                 let course = &self.course;
-                let upcoming = next(alloc, rules, compared, &course.purpose, won, course.event)?;
+                let moment = Moment {
+                    alloc,
+                    compared,
+                    event: course.event,
+                };
+                let upcoming = next(rules, moment, &course.purpose, won)?;
                 self.comparer.answer(reply)?;
                 begin(&mut self.comparer, &mut self.course, rules, upcoming);
             }

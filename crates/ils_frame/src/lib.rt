@@ -7,6 +7,7 @@ mod course;
 mod drawing;
 mod entries;
 mod ils;
+mod moment;
 mod neighbours;
 mod purpose;
 mod replies;

@@ -1,19 +1,19 @@
 //! Which comparison is next.
-ghost use Rattle.std.specs.Prelude.{if◌then◌else◌, ℕ, ◌+◌, ◌≡◌, ◌<◌, ◌≤◌, ◌^◌, IfOk};
+ghost use Rattle.std.specs.Prelude.{if◌then◌else◌, ◌≡◌, ◌<◌, ◌≤◌, ◌^◌, IfOk};
 ghost use Rattle.param_space.specs.Configurations.{IsConfig};
-ghost use Rattle.ils_face.specs.Setups.{setup_of};
 ghost use Rattle.ils_frame.specs.AllowedPurposes.{IsPurposeAllowed};
-ghost use Rattle.ils_frame.specs.declared.purpose.Purpose.{Purpose};
+ghost use Rattle.ils_face.specs.Setups.{setup_of};
+ghost use Rattle.ils_frame.specs.Moments.{GoesOnFrom};
 ghost use Rattle.ils_frame.specs.NextComparison;
-ghost use Rattle.ils_frame.specs.UpcomingComparison.{among_of, upcoming_seen};
+ghost use Rattle.ils_frame.specs.UpcomingComparison.{among_of, upcoming_seen, MakesReady};
 
 use crate::drawing::{neighbours_in_order, perturbed, random_config, restarts};
+use crate::moment::Moment;
 use crate::neighbours::Neighbours;
 use crate::purpose::{After, Purpose};
 use ils_face::Rules;
 use objective::Memory;
 use param_space::Config;
-use std::alloc::Global;
 
 /// What comes of a list of neighbours.
 #[derive(Drop)]
@@ -114,19 +114,15 @@ fn returning(more: u32, ils: Config, found: Config, event: u64) -> Result<Upcomi
 
 /// A turn of the outer search begins: the best so far is perturbed, and what comes of that
 /// is improved.
-fn next_turn(
-    alloc: Global,
-    rules: &Rules,
-    compared: u32,
-    turns: u32,
-    ils: Config,
-    event: u64,
-) -> Result<Upcoming, Memory>
-    requires config { IsConfig rules.now.space ils }
-    requires event { event < 2 ^ 59 }
-    requires within { compared ≤ rules.now.budget }
-    ensures { (purpose : Purpose) (e : ℕ) → IfOk result (λ u. upcoming_seen purpose e u ≡ NextComparison.next_turn (setup_of rules.now) compared turns ils event) }
+fn next_turn(rules: &Rules, moment: Moment, turns: u32, ils: Config) -> Result<Upcoming, Memory>
+    requires { GoesOnFrom rules.now moment (2 ^ 59) ils }
+    ensures { MakesReady result (NextComparison.next_turn (setup_of rules.now) moment.compared turns ils moment.event) }
 {
+    let Moment {
+        alloc,
+        compared,
+        event,
+    } = moment;
     if turns == 0 {
         return Ok(Upcoming::End { event });
     }
@@ -160,39 +156,32 @@ fn next_turn(
 
 /// What follows an improvement.
 fn next_after(
-    alloc: Global,
     rules: &Rules,
-    compared: u32,
+    moment: Moment,
     after: After,
     found: Config,
-    event: u64,
 ) -> Result<Upcoming, Memory>
-    requires config { IsConfig rules.now.space found }
-    requires event { event < 2 ^ 59 }
-    requires within { compared ≤ rules.now.budget }
-    ensures { (purpose : Purpose) (e : ℕ) → IfOk result (λ u. upcoming_seen purpose e u ≡ NextComparison.next_after (setup_of rules.now) compared after found event) }
+    requires { GoesOnFrom rules.now moment (2 ^ 59) found }
+    ensures { MakesReady result (NextComparison.next_after (setup_of rules.now) moment.compared after found moment.event) }
 {
     match after {
-        After::First => next_turn(alloc, rules, compared, rules.budget + 1, found, event),
-        After::Turn { more, ils } => returning(more, ils, found, event),
+        After::First => next_turn(rules, moment, rules.budget + 1, found),
+        After::Turn { more, ils } => returning(more, ils, found, moment.event),
     }
 }
 
 /// An improvement goes on with these neighbours, or what follows it comes.
 fn improving(
-    alloc: Global,
     rules: &Rules,
-    compared: u32,
+    moment: Moment,
     after: After,
     left: u32,
     current: Config,
     neighbours: Vec<Config>,
-    event: u64,
 ) -> Result<Upcoming, Memory>
-    requires config { IsConfig rules.now.space current }
-    requires event { event < 2 ^ 59 }
-    requires within { compared ≤ rules.now.budget }
-    ensures { (purpose : Purpose) (e : ℕ) → IfOk result (λ u. upcoming_seen purpose e u ≡ NextComparison.next_among after (NextComparison.next_after (setup_of rules.now) compared after) left current neighbours.items event) }
+    requires { GoesOnFrom rules.now moment (2 ^ 59) current }
+    ensures { let around = neighbours.items in
+        MakesReady result (NextComparison.next_improving (setup_of rules.now) moment.compared after left current around moment.event) }
 {
     match first_among(after, left, current, neighbours)? {
         Among::Compared {
@@ -203,40 +192,29 @@ fn improving(
             purpose,
             first,
             second,
-            event,
+            event: moment.event,
         }),
-        Among::Spent => Ok(Upcoming::End { event }),
-        Among::Over { after, found } => next_after(alloc, rules, compared, after, found, event),
+        Among::Spent => Ok(Upcoming::End {
+            event: moment.event,
+        }),
+        Among::Over { after, found } => next_after(rules, moment, after, found),
     }
 }
 
 /// The next random configuration is tried, or else the first improvement begins.
-fn next_tried(
-    alloc: Global,
-    rules: &Rules,
-    compared: u32,
-    more: u32,
-    current: Config,
-    event: u64,
-) -> Result<Upcoming, Memory>
-    requires config { IsConfig rules.now.space current }
-    requires event { event < 2 ^ 58 }
-    requires within { compared ≤ rules.now.budget }
-    ensures { (purpose : Purpose) (e : ℕ) → IfOk result (λ u. upcoming_seen purpose e u ≡ NextComparison.next_tried (setup_of rules.now) compared more current event) }
+fn next_tried(rules: &Rules, moment: Moment, more: u32, current: Config) -> Result<Upcoming, Memory>
+    requires { GoesOnFrom rules.now moment (2 ^ 58) current }
+    ensures { MakesReady result (NextComparison.next_tried (setup_of rules.now) moment.compared more current moment.event) }
 {
+    let Moment {
+        alloc,
+        compared,
+        event,
+    } = moment;
     if more == 0 {
         let around = neighbours_in_order(alloc, rules, &current, event)?;
         let left = rules.budget - compared;
-        return improving(
-            alloc,
-            rules,
-            compared,
-            After::First,
-            left,
-            current,
-            around,
-            event + 1,
-        );
+        return improving(rules, moment.after(1), After::First, left, current, around);
     }
     let challenger = random_config(alloc, rules, event)?;
     let (first, second) = (challenger.copy()?, current.copy()?);
@@ -254,76 +232,60 @@ fn next_tried(
 
 /// An improvement begins anew at a neighbour that has won.
 fn next_won(
-    alloc: Global,
     rules: &Rules,
-    compared: u32,
+    moment: Moment,
     after: &After,
     left: u32,
     winner: &Config,
-    event: u64,
 ) -> Result<Upcoming, Memory>
-    requires config { IsConfig rules.now.space winner.now }
-    requires event { event < 2 ^ 58 }
-    requires within { compared ≤ rules.now.budget }
-    ensures { (purpose : Purpose) (e : ℕ) → IfOk result (λ u. upcoming_seen purpose e u ≡ NextComparison.next_among after.now (NextComparison.next_after (setup_of rules.now) compared after.now) left winner.now (NextComparison.neighbours_in_order (setup_of rules.now) winner.now event) (event + 1)) }
+    requires { GoesOnFrom rules.now moment (2 ^ 58) winner.now }
+    ensures { MakesReady result
+        (NextComparison.next_won (setup_of rules.now) moment.compared after.now left winner.now moment.event) }
 {
-    let around = neighbours_in_order(alloc, rules, winner, event)?;
+    let around = neighbours_in_order(moment.alloc, rules, winner, moment.event)?;
     let (after, current) = (after.copy()?, winner.copy()?);
-    improving(
-        alloc,
-        rules,
-        compared,
-        after,
-        left,
-        current,
-        around,
-        event + 1,
-    )
+    improving(rules, moment.after(1), after, left, current, around)
 }
 
 /// The coin decides whether the next turn begins at the best so far or at random.
 fn next_restarted(
-    alloc: Global,
     rules: &Rules,
-    compared: u32,
+    moment: Moment,
     more: u32,
     best: &Config,
-    event: u64,
 ) -> Result<Upcoming, Memory>
-    requires config { IsConfig rules.now.space best.now }
-    requires event { event < 2 ^ 58 }
-    requires within { compared ≤ rules.now.budget }
-    ensures { (purpose : Purpose) (e : ℕ) → IfOk result (λ u. upcoming_seen purpose e u ≡ NextComparison.next_restarted (setup_of rules.now) compared more best.now event) }
+    requires { GoesOnFrom rules.now moment (2 ^ 58) best.now }
+    ensures { MakesReady result (NextComparison.next_restarted (setup_of rules.now) moment.compared more best.now moment.event) }
 {
-    if restarts(rules, event) {
-        let anew = random_config(alloc, rules, event + 1)?;
-        return next_turn(alloc, rules, compared, more, anew, event + 2);
+    if restarts(rules, moment.event) {
+        let anew = random_config(moment.alloc, rules, moment.event + 1)?;
+        return next_turn(rules, moment.after(2), more, anew);
     }
-    next_turn(alloc, rules, compared, more, best.copy()?, event + 1)
+    next_turn(rules, moment.after(1), more, best.copy()?)
 }
 
 /// Another neighbour of the same list is tried, or what follows the improvement comes.
 fn next_along(
-    alloc: Global,
     rules: &Rules,
-    compared: u32,
+    moment: Moment,
     after: &After,
     left: u32,
     current: &Config,
     around: &Neighbours,
-    event: u64,
 ) -> Result<Upcoming, Memory>
-    requires config { IsConfig rules.now.space current.now }
-    requires event { event < 2 ^ 59 }
-    requires within { compared ≤ rules.now.budget }
-    ensures { IfOk result (λ u. upcoming_seen (Purpose.Improving after.now left current.now around.now) event u ≡ NextComparison.next_among after.now (NextComparison.next_after (setup_of rules.now) compared after.now) left current.now around.now.rest event) }
+    requires { GoesOnFrom rules.now moment (2 ^ 59) current.now }
+    ensures { let purpose = Purpose.Improving after.now left current.now around.now in
+        let next = NextComparison.next_improving (setup_of rules.now) moment.compared after.now left current.now in
+        IfOk result (λ u. upcoming_seen purpose moment.event u ≡ next around.now.rest moment.event) }
 {
     let Some(neighbour) = around.next() else {
         let (after, found) = (after.copy()?, current.copy()?);
-        return next_after(alloc, rules, compared, after, found, event);
+        return next_after(rules, moment, after, found);
     };
     if left == 0 {
-        return Ok(Upcoming::End { event });
+        return Ok(Upcoming::End {
+            event: moment.event,
+        });
     }
     let (first, second) = (neighbour.copy()?, current.copy()?);
     Ok(Upcoming::Along { first, second })
@@ -336,25 +298,23 @@ fn chosen<'a>(won: bool, challenger: &'a Config, other: &'a Config) -> &'a Confi
     if won { challenger } else { other }
 }
 
-/// What follows when the present comparison came to this, where `compared` comparisons are
-/// begun and `event` is the number of the next draw. Nothing changes.
+/// What follows when the present comparison came to this. Nothing changes.
 pub(crate) fn next(
-    alloc: Global,
     rules: &Rules,
-    compared: u32,
+    moment: Moment,
     purpose: &Purpose,
     won: bool,
-    event: u64,
 ) -> Result<Upcoming, Memory>
     requires allowed { IsPurposeAllowed (IsConfig rules.now.space) purpose.now }
-    requires event { event < 2 ^ 57 }
-    requires within { compared ≤ rules.now.budget }
-    ensures { IfOk result (λ u. upcoming_seen purpose.now event u ≡ NextComparison.next (setup_of rules.now) compared purpose.now won event) }
+    requires few { moment.event < 2 ^ 57 }
+    requires within { moment.compared ≤ rules.now.budget }
+    ensures { let next = NextComparison.next (setup_of rules.now) moment.compared purpose.now won moment.event in
+        IfOk result (λ u. upcoming_seen purpose.now moment.event u ≡ next) }
 {
     match purpose {
         Purpose::Opening => {
             let start = rules.space.default_config()?;
-            next_tried(alloc, rules, compared, rules.initial, start, event)
+            next_tried(rules, moment, rules.initial, start)
         }
         Purpose::Trying {
             more,
@@ -362,7 +322,7 @@ pub(crate) fn next(
             current,
         } => {
             let kept = chosen(won, challenger, current).copy()?;
-            next_tried(alloc, rules, compared, *more, kept, event)
+            next_tried(rules, moment, *more, kept)
         }
         Purpose::Improving {
             after,
@@ -372,14 +332,14 @@ pub(crate) fn next(
         } => {
             if won {
                 let winner = around.tried();
-                next_won(alloc, rules, compared, after, *left, winner, event)
+                next_won(rules, moment, after, *left, winner)
             } else {
-                next_along(alloc, rules, compared, after, *left, current, around, event)
+                next_along(rules, moment, after, *left, current, around)
             }
         }
         Purpose::Returning { more, found, ils } => {
             let best = chosen(won, found, ils);
-            next_restarted(alloc, rules, compared, *more, best, event)
+            next_restarted(rules, moment, *more, best)
         }
     }
 }

@@ -7,7 +7,7 @@ use Rattle.ils_face.proofs.Setups.{SetupOf, setup_of-numbers}
 use Rattle.ils_face.specs.Setups.{setup_of}
 use Rattle.ils_frame.specs.declared.purpose.Purpose.{Purpose}
 use Rattle.ils_frame.specs.declared.purpose.Purpose.TheVariants.{Improving}
-use Rattle.ils_frame.specs.NextComparison.{next, next_among, next_after, next_tried, neighbours_in_order}
+use Rattle.ils_frame.specs.NextComparison.{next, next_won, next_tried}
 use Rattle.ils_frame.specs.UpcomingComparison.{upcoming_seen}
 use Rattle.ils_frame.proofs.upcoming.next.Goals as goal
 
@@ -18,10 +18,10 @@ returns-in_ok-start-in-Opening c =
     let same : SetupOf now setup = setup_of-numbers now in
     IfOk-weaker c.next_tried.result _ _
     (λ u h. h
-    ∙ ap (λ n. next_tried setup c.args.compared n c.in_ok-start-in-Opening.start c.args.event) (ap (λ (r : Rules). r.initial) c.rules.view_is ∙ sym same.initial)
-    ∙ ap (λ θ. next_tried setup c.args.compared setup.initial θ c.args.event) (c.in_ok-start-in-Opening.ensures.value ∙ ap (λ (r : Rules). defaults r.space.params) c.rules.view_is ∙ sym same.start)
-    ∙ sym (ap (λ p. next setup c.args.compared p c.args.won c.args.event) c.in-Opening.is))
-    (c.next_tried.ensures c.args.purpose.now c.args.event)
+    ∙ ap (λ n. next_tried setup c.args.moment.compared n c.in_ok-start-in-Opening.start c.args.moment.event) (ap (λ (r : Rules). r.initial) c.rules.view_is ∙ sym same.initial)
+    ∙ ap (λ θ. next_tried setup c.args.moment.compared setup.initial θ c.args.moment.event) (c.in_ok-start-in-Opening.ensures.value ∙ ap (λ (r : Rules). defaults r.space.params) c.rules.view_is ∙ sym same.start)
+    ∙ sym (ap (λ p. next setup c.args.moment.compared p c.args.won c.args.moment.event) c.in-Opening.is))
+    (c.next_tried.ensures c.args.purpose.now c.args.moment.event)
 
 pub returns-then-won : goal.returns-then-won
 returns-then-won c =
@@ -29,17 +29,17 @@ returns-then-won c =
     let present : Purpose = Improving c.in-Improving.after c.in-Improving.left c.in-Improving.current c.in-Improving.around in
     IfOk-weaker c.next_won.result _ _
     (λ u h. h
-    ∙ ap (λ θ. next_among c.in-Improving.after (next_after setup c.args.compared c.in-Improving.after) c.in-Improving.left θ (neighbours_in_order setup θ c.args.event) (c.args.event + 1)) c.tried-winner.ensures
-    ∙ sym (ap (λ p. next setup c.args.compared p c.args.won c.args.event) c.in-Improving.is
-    ∙ ap (λ b. next setup c.args.compared present b c.args.event) c.if-won.true))
-    (c.next_won.ensures c.args.purpose.now c.args.event)
+    ∙ ap (λ θ. next_won setup c.args.moment.compared c.in-Improving.after c.in-Improving.left θ c.args.moment.event) c.tried-winner.ensures
+    ∙ sym (ap (λ p. next setup c.args.moment.compared p c.args.won c.args.moment.event) c.in-Improving.is
+    ∙ ap (λ b. next setup c.args.moment.compared present b c.args.moment.event) c.if-won.true))
+    (c.next_won.ensures c.args.purpose.now c.args.moment.event)
 
 pub returns-else-won : goal.returns-else-won
 returns-else-won c =
     let setup : Setup = setup_of c.args.rules.now in
     let present : Purpose = Improving c.in-Improving.after c.in-Improving.left c.in-Improving.current c.in-Improving.around in
     IfOk-weaker c.next_along.result _ _
-    (λ u h. ap (λ p. upcoming_seen p c.args.event u) c.in-Improving.is ∙ h
-    ∙ sym (ap (λ p. next setup c.args.compared p c.args.won c.args.event) c.in-Improving.is
-    ∙ ap (λ b. next setup c.args.compared present b c.args.event) c.if-won.false))
+    (λ u h. ap (λ p. upcoming_seen p c.args.moment.event u) c.in-Improving.is ∙ h
+    ∙ sym (ap (λ p. next setup c.args.moment.compared p c.args.won c.args.moment.event) c.in-Improving.is
+    ∙ ap (λ b. next setup c.args.moment.compared present b c.args.moment.event) c.if-won.false))
     c.next_along.ensures

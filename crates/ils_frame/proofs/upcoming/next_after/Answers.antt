@@ -12,6 +12,6 @@ returns-in-First c = λ purpose e.
     let same : SetupOf now (setup_of now) = setup_of-numbers now in
     let turns : c.rules.inside.budget + 1 ≡ suc (setup_of now).budget = omega (arith, same.budget, ap (λ (r : Rules). r.budget) c.rules.view_is) in
     IfOk-weaker c.next_turn.result _ _
-    (λ u h. h ∙ ap (λ n. next_turn (setup_of now) c.args.compared n c.args.found c.args.event) turns
-    ∙ sym (ap (λ a. next_after (setup_of now) c.args.compared a c.args.found c.args.event) c.in-First.is))
+    (λ u h. h ∙ ap (λ n. next_turn (setup_of now) c.args.moment.compared n c.args.found c.args.moment.event) turns
+    ∙ sym (ap (λ a. next_after (setup_of now) c.args.moment.compared a c.args.found c.args.moment.event) c.in-First.is))
     (c.next_turn.ensures purpose e)

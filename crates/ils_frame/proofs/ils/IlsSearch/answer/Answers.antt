@@ -21,8 +21,8 @@ next-requires-clause-allowed g c =
     (machine_of c.self.inside.comparer c.self.inside.course) c.self.inside.replies.items c.args.reply c.self.invariant.reached c.self.invariant.fitting fits in
     rw c.deref-rules.ensures can.allowed
 
-pub next-requires-clause-event : goal.next-requires-clause-event
-next-requires-clause-event g c =
+pub next-requires-clause-few : goal.next-requires-clause-few
+next-requires-clause-few g c =
     let kept : Rules = c.self.inside.rules.value in
     let fits : Fits (ask_for (question_in (g.C.Comparer.parts.stage c.self.inside.comparer))) c.args.reply = search rules in
     let can = can-answer g.C.Comparer.parts (g.C.Comparer.at_open kept) kept c.self.invariant.ruled (g.C.Comparer.fit kept) (g.met.C.Comparer.steady kept c.self.invariant.ruled)
