@@ -20,12 +20,12 @@ pub record Turn : Type 0 where
   pub more : ℕ  -- the turns that may follow
 
 -- how far a comparison is
-pub data Place : Type 0 where
-  Opened : Place  -- nothing was compared yet
-  High : Turn → Place  -- the one with more runs is to be evaluated
-  Low : Turn → (bound : ℕ) → Place  -- then the one that catches up, up to the other one's cost
-  Further : (winner : Settings) → (places : ℕ) → Place  -- the winner is to be evaluated on further places
-  Compared : Bool → Place  -- whether the first one won
+pub data Phase : Type 0 where
+  Opened : Phase  -- nothing was compared yet
+  High : Turn → Phase  -- the one with more runs is to be evaluated
+  Low : Turn → (bound : ℕ) → Phase  -- then the one that catches up, up to the other one's cost
+  Further : (winner : Settings) → (places : ℕ) → Phase  -- the winner is to be evaluated on further places
+  Compared : Bool → Phase  -- whether the first one won
 
 -- the runs of all configurations, the incumbent among them, and what a win is worth
 pub record Tally : Type 0 where
@@ -37,7 +37,7 @@ pub record Tally : Type 0 where
 pub record State : Type 0 where
   pub max_runs : ℕ  -- the places of an evaluation, at most
   pub tally : Tally
-  pub place : Place
+  pub phase : Phase
   pub entries : List Incumbent  -- oldest first
 
 -- ---- evaluations
@@ -60,7 +60,7 @@ abbrev pub in_full : Incumbent → Settings → ℕ → Question
 in_full last θ n = full_where (is_overtaken last θ n) last θ n
 
 -- the evaluation that is asked for; where none is, that of the incumbent on no place
-abbrev pub question_at : Incumbent → Place → Question
+abbrev pub question_at : Incumbent → Phase → Question
 question_at last Opened = record { config = last.config; places = 0; bound = None }
 question_at last (High turn) = in_full last turn.high turn.places
 question_at last (Low turn bound) = record { config = turn.low; places = turn.places; bound = Some bound }
@@ -68,7 +68,7 @@ question_at last (Further θ n) = in_full last θ n
 question_at last (Compared won) = record { config = last.config; places = 0; bound = None }
 
 -- what is asked for, or what the comparison came to
-abbrev pub stage_at : Incumbent → Place → AskedStage
+abbrev pub stage_at : Incumbent → Phase → AskedStage
 stage_at last Opened = Ready
 stage_at last (High turn) = Asking (question_at last (High turn))
 stage_at last (Low turn bound) = Asking (question_at last (Low turn bound))
@@ -76,7 +76,7 @@ stage_at last (Further θ n) = Asking (question_at last (Further θ n))
 stage_at last (Compared won) = Decided won
 
 -- whether the incumbent goes first
-abbrev pub is_incumbent_first : Incumbent → Place → Bool
+abbrev pub is_incumbent_first : Incumbent → Phase → Bool
 is_incumbent_first last Opened = false
 is_incumbent_first last (High turn) = is_overtaken last turn.high turn.places
 is_incumbent_first last (Low turn bound) = false
@@ -137,31 +137,31 @@ abbrev pub first_dominates : Turn → (low high : Bool) → Bool
 first_dominates turn low high = if turn.first_is_low then low else high
 
 -- the winner is evaluated on as many further places as the bonus says
-abbrev pub place_by : Bool → ℕ → Counts → ℕ → Settings → Place
-place_by true max_runs counts bonus θ = Further θ (min (count_in counts θ + bonus) max_runs)
-place_by false max_runs counts bonus θ = Compared false
+abbrev pub phase_by : Bool → ℕ → Counts → ℕ → Settings → Phase
+phase_by true max_runs counts bonus θ = Further θ (min (count_in counts θ + bonus) max_runs)
+phase_by false max_runs counts bonus θ = Compared false
 
 -- a further turn on one more place; the turns suffice, so that the first case never comes
-abbrev pub next_turn : ℕ → Turn → ℕ → Place
+abbrev pub next_turn : ℕ → Turn → ℕ → Phase
 next_turn max_runs turn zero = Compared false
 next_turn max_runs turn (suc more) = High (record turn { places = min (turn.places + 1) max_runs; more = more })
 
 -- after a turn, by who dominates
-abbrev pub place_after_turn : ℕ → Counts → ℕ → Turn → (low high : Bool) → Place
-place_after_turn max_runs counts bonus turn low high =
-    if low || high then place_by (first_dominates turn low high) max_runs counts bonus (first_in turn) else next_turn max_runs turn turn.more
+abbrev pub phase_after_turn : ℕ → Counts → ℕ → Turn → (low high : Bool) → Phase
+phase_after_turn max_runs counts bonus turn low high =
+    if low || high then phase_by (first_dominates turn low high) max_runs counts bonus (first_in turn) else next_turn max_runs turn turn.more
 
--- after a reply to what the place is for; nothing but a cost is replied in full
-abbrev pub place_next : ℕ → Counts → ℕ → Place → Reply → Place
-place_next max_runs counts bonus Opened r = Opened
-place_next max_runs counts bonus (High turn) (Exact x) = Low turn x.0
-place_next max_runs counts bonus (High turn) Exceeds = Compared false
-place_next max_runs counts bonus (Low turn bound) r = place_after_turn max_runs counts bonus turn (low_dominates counts turn.high turn.places r) (high_dominates bound r)
-place_next max_runs counts bonus (Further θ n) r = Compared true
-place_next max_runs counts bonus (Compared won) r = Compared won
+-- after a reply to what the phase is for; nothing but a cost is replied in full
+abbrev pub phase_next : ℕ → Counts → ℕ → Phase → Reply → Phase
+phase_next max_runs counts bonus Opened r = Opened
+phase_next max_runs counts bonus (High turn) (Exact x) = Low turn x.0
+phase_next max_runs counts bonus (High turn) Exceeds = Compared false
+phase_next max_runs counts bonus (Low turn bound) r = phase_after_turn max_runs counts bonus turn (low_dominates counts turn.high turn.places r) (high_dominates bound r)
+phase_next max_runs counts bonus (Further θ n) r = Compared true
+phase_next max_runs counts bonus (Compared won) r = Compared won
 
 -- the bonus is used up by the winner's further evaluation
-abbrev pub bonus_next : Place → ℕ → ℕ
+abbrev pub bonus_next : Phase → ℕ → ℕ
 bonus_next Opened bonus = bonus
 bonus_next (High turn) bonus = bonus
 bonus_next (Low turn bound) bonus = bonus
@@ -177,12 +177,12 @@ tally_counted t q r = record {
 }
 
 -- the tally after a reply
-abbrev pub tally_after : Tally → Place → Reply → Tally
-tally_after t place r = record (tally_counted t (question_at t.last place) r) { bonus = if is_incumbent_first t.last place then t.bonus else bonus_next place t.bonus }
+abbrev pub tally_after : Tally → Phase → Reply → Tally
+tally_after t phase r = record (tally_counted t (question_at t.last phase) r) { bonus = if is_incumbent_first t.last phase then t.bonus else bonus_next phase t.bonus }
 
--- the place after a reply: the same where the incumbent went first
-abbrev pub place_after : ℕ → Tally → Place → Reply → Place
-place_after max_runs t place r = if is_incumbent_first t.last place then place else place_next max_runs (raised t.counts (question_at t.last place).config (question_at t.last place).places) t.bonus place r
+-- the phase after a reply: the same where the incumbent went first
+abbrev pub phase_after : ℕ → Tally → Phase → Reply → Phase
+phase_after max_runs t phase r = if is_incumbent_first t.last phase then phase else phase_next max_runs (raised t.counts (question_at t.last phase).config (question_at t.last phase).places) t.bonus phase r
 
 -- ---- the begin of a comparison
 
@@ -220,7 +220,7 @@ replied_by last q (Exact x) s = win_where (is_better last q.config q.places x.0)
 replied_by last q Exceeds s = after_evaluation q s
 
 -- the bonus is used up by the winner's further evaluation
-abbrev pub cleared_at : Place → PlainState → PlainState
+abbrev pub cleared_at : Phase → PlainState → PlainState
 cleared_at Opened s = s
 cleared_at (High turn) s = s
 cleared_at (Low turn bound) s = s
@@ -228,8 +228,8 @@ cleared_at (Further θ n) s = record s { bonus = 0 }
 cleared_at (Compared won) s = s
 
 -- after a reply
-abbrev pub replied_at : Incumbent → Place → Reply → PlainState → PlainState
-replied_at last place r s = if is_incumbent_first last place then replied_by last (question_at last place) r s else cleared_at place (replied_by last (question_at last place) r s)
+abbrev pub replied_at : Incumbent → Phase → Reply → PlainState → PlainState
+replied_at last phase r s = if is_incumbent_first last phase then replied_by last (question_at last phase) r s else cleared_at phase (replied_by last (question_at last phase) r s)
 
 -- as a comparison of this number begins
 abbrev pub started_at : Settings → Settings → ℕ → PlainState → PlainState
@@ -259,7 +259,7 @@ abbrev pub turn_from_low : Setup → Sums → Turn → ℕ → Procedure (Unit {
 turn_from_low setup sums turn x = evaluate sums turn.low turn.places (Some x) >>= λ y. turns_after setup sums turn
 
 -- what is to come of a comparison
-abbrev pub coming_at : Setup → Sums → Place → Procedure Bool
+abbrev pub coming_at : Setup → Sums → Phase → Procedure Bool
 coming_at setup sums Opened = give false
 coming_at setup sums (High turn) = (evaluate sums turn.high turn.places None >>= λ x. turn_from_low setup sums turn x) >>= λ u. decision_after setup sums turn
 coming_at setup sums (Low turn bound) = turn_from_low setup sums turn bound >>= λ u. decision_after setup sums turn
@@ -268,7 +268,7 @@ coming_at setup sums (Compared won) = give won
 
 -- the same of a state
 abbrev pub coming_in : Setup → Sums → State → Procedure Bool
-coming_in setup sums c = coming_at setup sums c.place
+coming_in setup sums c = coming_at setup sums c.phase
 
 -- ---- the comparer
 
@@ -278,7 +278,7 @@ one_where true = 1
 one_where false = 0
 
 -- the evaluations that are left, at most
-abbrev pub left_at : Incumbent → Place → ℕ
+abbrev pub left_at : Incumbent → Phase → ℕ
 left_at last Opened = 0
 left_at last (High turn) = 3 * turn.more + 4 + one_where (is_overtaken last turn.high turn.places)
 left_at last (Low turn bound) = 3 * turn.more + 3
@@ -288,24 +288,24 @@ left_at last (Compared won) = 0
 -- with one more evaluation, and the entry of a new incumbent
 abbrev pub state_counted : State → Reply → State
 state_counted c r = record c {
-  tally = tally_counted c.tally (question_at c.tally.last c.place) r;
-  entries = c.entries ++ added_by c.tally.last (question_at c.tally.last c.place) r;
+  tally = tally_counted c.tally (question_at c.tally.last c.phase) r;
+  entries = c.entries ++ added_by c.tally.last (question_at c.tally.last c.phase) r;
 }
 
--- at the next place
+-- at the next phase
 abbrev pub state_next : State → Reply → State
 state_next c r = record c {
-  tally = record c.tally { bonus = bonus_next c.place c.tally.bonus };
-  place = place_next c.max_runs c.tally.counts c.tally.bonus c.place r;
+  tally = record c.tally { bonus = bonus_next c.phase c.tally.bonus };
+  phase = phase_next c.max_runs c.tally.counts c.tally.bonus c.phase r;
 }
 
 -- after a reply
 abbrev pub state_after : State → Reply → State
 state_after c r = record {
   max_runs = c.max_runs;
-  tally = tally_after c.tally c.place r;
-  place = place_after c.max_runs c.tally c.place r;
-  entries = c.entries ++ added_by c.tally.last (question_at c.tally.last c.place) r;
+  tally = tally_after c.tally c.phase r;
+  phase = phase_after c.max_runs c.tally c.phase r;
+  entries = c.entries ++ added_by c.tally.last (question_at c.tally.last c.phase) r;
 }
 
 -- a comparison of this number begins
@@ -313,21 +313,21 @@ abbrev pub state_at_begin : State → Settings → Settings → ℕ → State
 state_at_begin c θ φ m = record {
   max_runs = c.max_runs;
   tally = tally_at_begin c.tally θ φ m;
-  place = High (first_turn (nat_le (count_in c.tally.counts θ) (count_in c.tally.counts φ)) c.max_runs c.tally.counts θ φ);
+  phase = High (first_turn (nat_le (count_in c.tally.counts θ) (count_in c.tally.counts φ)) c.max_runs c.tally.counts θ φ);
   entries = c.entries;
 }
 
 -- how FocusedILS goes on, and what it shows
 abbrev pub focused_parts : Parts State
 focused_parts = record {
-  stage = λ c. stage_at c.tally.last c.place;
+  stage = λ c. stage_at c.tally.last c.phase;
   last = λ c. c.tally.last;
   entries = λ c. c.entries;
   after = state_after;
   begun = state_at_begin;
-  added = λ c r. added_by c.tally.last (question_at c.tally.last c.place) r;
-  left = λ c. left_at c.tally.last c.place;
-  replied = λ c r s. replied_at c.tally.last c.place r s;
+  added = λ c r. added_by c.tally.last (question_at c.tally.last c.phase) r;
+  left = λ c. left_at c.tally.last c.phase;
+  replied = λ c r s. replied_at c.tally.last c.phase r s;
   started = λ c θ φ m s. started_at θ φ m s;
 }
 
@@ -340,7 +340,7 @@ abbrev pub state_from : ℕ → Settings → State
 state_from max_runs start = record {
   max_runs = max_runs;
   tally = record { counts = no_counts; last = first_incumbent start; bonus = 0 };
-  place = Opened;
+  phase = Opened;
   entries = first_incumbent start ∷ [];
 }
 
@@ -366,19 +366,19 @@ pub record IsTurn (allowed : Settings → Type 0) (max_runs : ℕ) (counts : Cou
   pub enough : count_in counts turn.high ≤ turn.places + turn.more
 
 -- a comparison has a number from 1, and its configurations are allowed
-abbrev pub IsPlaceFit : (Settings → Type 0) → ℕ → Tally → Place → Type 0
-IsPlaceFit allowed max_runs t Opened = t.last.compared ≡ 0
-IsPlaceFit allowed max_runs t (High turn) = (1 ≤ t.last.compared) × IsTurn allowed max_runs t.counts turn
-IsPlaceFit allowed max_runs t (Low turn bound) = (1 ≤ t.last.compared) × IsTurn allowed max_runs t.counts turn × (turn.places ≤ count_in t.counts turn.high)
-IsPlaceFit allowed max_runs t (Further θ n) = (1 ≤ t.last.compared) × allowed θ × (1 ≤ n) × (n ≤ max_runs)
-IsPlaceFit allowed max_runs t (Compared won) = 1 ≤ t.last.compared
+abbrev pub IsPhaseFit : (Settings → Type 0) → ℕ → Tally → Phase → Type 0
+IsPhaseFit allowed max_runs t Opened = t.last.compared ≡ 0
+IsPhaseFit allowed max_runs t (High turn) = (1 ≤ t.last.compared) × IsTurn allowed max_runs t.counts turn
+IsPhaseFit allowed max_runs t (Low turn bound) = (1 ≤ t.last.compared) × IsTurn allowed max_runs t.counts turn × (turn.places ≤ count_in t.counts turn.high)
+IsPhaseFit allowed max_runs t (Further θ n) = (1 ≤ t.last.compared) × allowed θ × (1 ≤ n) × (n ≤ max_runs)
+IsPhaseFit allowed max_runs t (Compared won) = 1 ≤ t.last.compared
 
 -- it was reached by fitting replies
 pub record IsFit (max_runs : ℕ) (allowed : Settings → Type 0) (c : State) : Type 0 where
   pub runs : c.max_runs ≡ max_runs
   pub some : 1 ≤ max_runs
   pub tally : HasMostRuns c.tally
-  pub place : IsPlaceFit allowed max_runs c.tally c.place
+  pub phase : IsPhaseFit allowed max_runs c.tally c.phase
   pub trajectory : IsTrajectory max_runs allowed c.entries c.tally.last
   pub entered : IsSome (newest c.entries)
   pub earlier : IfSome (newest c.entries) (λ e. e.runs ≤ c.tally.last.runs)  -- the newest entry has no more runs
@@ -388,8 +388,8 @@ pub record IsBound (sums : Sums) (last : Incumbent) (turn : Turn) (bound : ℕ) 
   pub cost : sums turn.high turn.places ≡ Some bound
   pub least : turn.places ≡ last.runs → last.sum ≤ bound
 
--- the same at each place
-abbrev pub StandsAt : Sums → Incumbent → Place → Type 0
+-- the same at each phase
+abbrev pub StandsAt : Sums → Incumbent → Phase → Type 0
 StandsAt sums last Opened = Unit {0}
 StandsAt sums last (High turn) = Unit {0}
 StandsAt sums last (Low turn bound) = IsBound sums last turn bound
@@ -404,4 +404,4 @@ pub record Stands (sums : Sums) (c : State) (s : PlainState) : Type 0 where
   pub counts : (φ : Settings) → s.counts φ ≡ count_in c.tally.counts φ
   pub known : AreCostsKnown sums s
   pub cost : sums c.tally.last.config c.tally.last.runs ≡ Some c.tally.last.sum
-  pub place : StandsAt sums c.tally.last c.place
+  pub phase : StandsAt sums c.tally.last c.phase

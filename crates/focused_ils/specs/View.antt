@@ -4,15 +4,15 @@ use Rattle.objective.specs.Limits
 use Rattle.uncapped.specs.Procedure.{Settings, Question, Incumbent}
 use Rattle.ils_face.specs.declared.asks.Reply.{Reply}
 use Rattle.ils_frame.specs.Comparers.{question_in}
-use Rattle.focused_ils.specs.declared.step.Step.{Step}
-use Rattle.focused_ils.specs.declared.step.Step.TheVariants as step
+use Rattle.focused_ils.specs.declared.phase.Phase as phase
+use Rattle.focused_ils.specs.declared.phase.Phase.TheVariants as held
 use Rattle.focused_ils.specs.Counts.{Counts, count_in}
-use Rattle.focused_ils.specs.State.{Turn, Place, Opened, High, Low, Further, Compared, is_incumbent_first, question_at, stage_at, is_extended, last_where, place_next, first_turn}
+use Rattle.focused_ils.specs.State.{Turn, Phase, Opened, High, Low, Further, Compared, is_incumbent_first, question_at, stage_at, is_extended, last_where, phase_next, first_turn}
 
 -- the incumbent, and how far the comparison is
 pub record Held : Type 0 where
   pub last : Incumbent
-  pub place : Place
+  pub phase : Phase
 
 -- a turn of these evaluations
 abbrev pub turn_seen : Bool → (high low : Question) → ℕ → Turn
@@ -23,13 +23,13 @@ abbrev pub first_seen : Bool → (high low : Question) → Question
 first_seen true high low = low
 first_seen false high low = high
 
--- the place with the configurations that the evaluations name
-abbrev pub place_seen : Bool → (high low : Question) → Step → Place
-place_seen first_is_low high low step.Opened = Opened
-place_seen first_is_low high low (step.High more) = High (turn_seen first_is_low high low more)
-place_seen first_is_low high low (step.Low more bound) = Low (turn_seen first_is_low high low more) bound.0
-place_seen first_is_low high low step.Further = Further (first_seen first_is_low high low).config (first_seen first_is_low high low).places
-place_seen first_is_low high low (step.Compared won) = Compared won
+-- the phase with the configurations that the evaluations name
+abbrev pub phase_seen : Bool → (high low : Question) → phase.Phase → Phase
+phase_seen first_is_low high low held.Opened = Opened
+phase_seen first_is_low high low (held.High more) = High (turn_seen first_is_low high low more)
+phase_seen first_is_low high low (held.Low more bound) = Low (turn_seen first_is_low high low more) bound.0
+phase_seen first_is_low high low held.Further = Further (first_seen first_is_low high low).config (first_seen first_is_low high low).places
+phase_seen first_is_low high low (held.Compared won) = Compared won
 
 -- an evaluation in full, and that of the incumbent on as many places
 pub record AreInFull (incumbent evaluation : Question) : Type 0 where
@@ -42,24 +42,24 @@ pub record IsUpTo (high low : Question) (bound : ℕ) : Type 0 where
   pub places : low.places ≡ high.places
   pub limit : low.bound ≡ Some bound
 
--- the evaluations are those that the step asks for
-abbrev pub AreForStep : Bool → (incumbent high low : Question) → Step → Type 0
-AreForStep first_is_low incumbent high low step.Opened = Unit {0}
-AreForStep first_is_low incumbent high low (step.High more) = AreInFull incumbent high
-AreForStep first_is_low incumbent high low (step.Low more bound) = IsUpTo high low bound.0
-AreForStep first_is_low incumbent high low step.Further = AreInFull incumbent (first_seen first_is_low high low)
-AreForStep first_is_low incumbent high low (step.Compared won) = Unit {0}
+-- the evaluations are those that the phase asks for
+abbrev pub AreForPhase : Bool → (incumbent high low : Question) → phase.Phase → Type 0
+AreForPhase first_is_low incumbent high low held.Opened = Unit {0}
+AreForPhase first_is_low incumbent high low (held.High more) = AreInFull incumbent high
+AreForPhase first_is_low incumbent high low (held.Low more bound) = IsUpTo high low bound.0
+AreForPhase first_is_low incumbent high low held.Further = AreInFull incumbent (first_seen first_is_low high low)
+AreForPhase first_is_low incumbent high low (held.Compared won) = Unit {0}
 
 -- an evaluation is asked for
 abbrev pub IsAsking : Held → Type 0
-IsAsking c = IsSome (question_in (stage_at c.last c.place))
+IsAsking c = IsSome (question_in (stage_at c.last c.phase))
 
 -- the evaluation that is asked for
 abbrev pub asked_in : Held → Question
-asked_in c = question_at c.last c.place
+asked_in c = question_at c.last c.phase
 
 -- where the one that catches up is asked for, this holds of its turn
-abbrev pub IfLow : Place → (Turn → Type 0) → Type 0
+abbrev pub IfLow : Phase → (Turn → Type 0) → Type 0
 IfLow Opened P = Unit {0}
 IfLow (High turn) P = Unit {0}
 IfLow (Low turn bound) P = P turn
@@ -74,12 +74,12 @@ held_extended c x = record c { last = last_where false (is_extended c.last (aske
 abbrev pub held_at_begin : ℕ → Counts → Held → Settings → Settings → ℕ → Held
 held_at_begin max_runs counts c θ φ m = record {
   last = record c.last { compared = m };
-  place = High (first_turn (nat_le (count_in counts θ) (count_in counts φ)) max_runs counts θ φ);
+  phase = High (first_turn (nat_le (count_in counts θ) (count_in counts φ)) max_runs counts θ φ);
 }
 
--- the place that a reply leads to, by these counts
-abbrev pub place_from : ℕ → Counts → ℕ → Held → Reply → Place
-place_from max_runs counts bonus c r = if is_incumbent_first c.last c.place then c.place else place_next max_runs counts bonus c.place r
+-- the phase that a reply leads to, by these counts
+abbrev pub phase_from : ℕ → Counts → ℕ → Held → Reply → Phase
+phase_from max_runs counts bonus c r = if is_incumbent_first c.last c.phase then c.phase else phase_next max_runs counts bonus c.phase r
 
 -- each comparison makes a win worth at most two further runs
 pub record IsBonus (compared bonus : ℕ) : Type 0 where

@@ -3,12 +3,13 @@ ghost use Rattle.std.specs.Prelude.{ℕ, ◌≡◌, ◌+◌, min, ◌&&◌, not,
 ghost use Rattle.ils_face.specs.Replies.{ask_of};
 ghost use Rattle.ils_frame.specs.Comparers.{stage_of, decision_in};
 ghost use Rattle.focused_ils.specs.Counts.{Counts, count_in};
-ghost use Rattle.focused_ils.specs.State.{Turn, Opened, High, first_incumbent, first_turn, low_dominates as low_does, high_dominates as high_does, place_after_turn, is_incumbent_first as goes_first, is_better as better_by, is_extended, entry as entry_of, last_where, stage_at, place_next, bonus_next};
-ghost use Rattle.focused_ils.specs.View.{first_seen, IsAsking, asked_in, IfLow, held_extended, held_at_begin, place_from};
+ghost use Rattle.focused_ils.specs.State as state;
+ghost use Rattle.focused_ils.specs.State.{Turn, Opened, High, first_incumbent, first_turn, phase_after_turn, is_extended, last_where, stage_at, phase_next, bonus_next};
+ghost use Rattle.focused_ils.specs.View.{first_seen, IsAsking, asked_in, IfLow, held_extended, held_at_begin, phase_from};
 
 use crate::counts::Counts;
-use crate::evaluation::Evaluation;
-use crate::step::Step;
+use crate::open_ask::OpenAsk;
+use crate::phase::Phase;
 use ils_face::{Ask, Entry, Reply};
 use ils_frame::Stage;
 use objective::{Memory, Sum};
@@ -22,27 +23,30 @@ use std::marker::Model;
 pub(crate) struct Comparison {
     /// The number of the comparison, from 1; 0 before the first.
     compared: u32,
-    incumbent: Evaluation,
+    incumbent: OpenAsk,
     /// The incumbent's runs, and their total cost.
     runs: u32,
     sum: Sum,
     /// Whether the one that catches up is the comparison's first.
     first_is_low: bool,
     /// The one with more runs.
-    high: Evaluation,
+    high: OpenAsk,
     /// The one that catches up.
-    low: Evaluation,
-    step: Step,
+    low: OpenAsk,
+    phase: Phase,
 }
 
 impl Model for Comparison {
-    ghost use Rattle.focused_ils.specs.View.{Held, place_seen, AreForStep};
+    ghost use Rattle.focused_ils.specs.View.{Held, phase_seen, AreForPhase};
 
     ghost Value = { Held };
 
-    ghost view = { λ c. record { last = record { compared = c.compared; runs = c.runs; sum = c.sum.0; config = c.incumbent.config }; place = place_seen c.first_is_low c.high c.low c.step } };
+    ghost view = { λ c. record {
+      last = record { compared = c.compared; runs = c.runs; sum = c.sum.0; config = c.incumbent.config };
+      phase = phase_seen c.first_is_low c.high c.low c.phase;
+    } };
 
-    ghost invariant = { λ c. AreForStep c.first_is_low c.incumbent c.high c.low c.step };
+    ghost invariant = { λ c. AreForPhase c.first_is_low c.incumbent c.high c.low c.phase };
 }
 
 /// Whether two configurations have the same value numbers.
@@ -53,7 +57,7 @@ fn same_values(left: &[u16], right: &[u16]) -> bool
 }
 
 /// Whether another configuration is evaluated on more places than the incumbent has runs.
-fn is_overtaken(incumbent: &Evaluation, runs: u32, other: &Evaluation) -> bool
+fn is_overtaken(incumbent: &OpenAsk, runs: u32, other: &OpenAsk) -> bool
     ensures { result ≡ (not (bytes_eq other.now.config incumbent.now.config) && nat_lt runs other.now.places) }
 {
     let same = same_values(other.config().values(), incumbent.config().values());
@@ -61,7 +65,7 @@ fn is_overtaken(incumbent: &Evaluation, runs: u32, other: &Evaluation) -> bool
 }
 
 /// The evaluation of the comparison's first configuration.
-fn first_of<'a>(first_is_low: bool, high: &'a Evaluation, low: &'a Evaluation) -> &'a Evaluation
+fn first_of<'a>(first_is_low: bool, high: &'a OpenAsk, low: &'a OpenAsk) -> &'a OpenAsk
     ensures { result.now ≡ first_seen first_is_low high.now low.now }
 {
     if first_is_low { low } else { high }
@@ -86,8 +90,8 @@ fn further_places(runs: u32, bonus: u32, max_runs: u32) -> u32
 }
 
 /// Whether the one that catches up has as many runs by now, and costs no more.
-fn low_dominates(counts: &Counts, high: &Evaluation, reply: Reply) -> bool
-    ensures { result ≡ low_does counts.now high.now.config high.now.places reply }
+fn low_dominates(counts: &Counts, high: &OpenAsk, reply: Reply) -> bool
+    ensures { result ≡ state.low_dominates counts.now high.now.config high.now.places reply }
 {
     match reply {
         Reply::Exact(_) => counts.runs(high.config()) <= high.places(),
@@ -97,7 +101,7 @@ fn low_dominates(counts: &Counts, high: &Evaluation, reply: Reply) -> bool
 
 /// Whether the one with more runs costs no more.
 fn high_dominates(bound: Sum, reply: Reply) -> bool
-    ensures { result ≡ high_does bound.0 reply }
+    ensures { result ≡ state.high_dominates bound.0 reply }
 {
     match reply {
         Reply::Exact(sum) => bound.0 <= sum.0,
@@ -108,17 +112,17 @@ fn high_dominates(bound: Sum, reply: Reply) -> bool
 impl Comparison {
     /// No comparison yet, and the default without a run.
     pub fn new(start: &Config) -> Result<Comparison, Memory>
-        ensures { IfOk result (λ c. c ≡ record { last = first_incumbent start.now; place = Opened }) }
+        ensures { IfOk result (λ c. c ≡ record { last = first_incumbent start.now; phase = Opened }) }
     {
         Ok(Comparison {
             compared: 0,
-            incumbent: Evaluation::new(start.copy()?, 0),
+            incumbent: OpenAsk::new(start.copy()?, 0),
             runs: 0,
             sum: Sum(0),
             first_is_low: true,
-            high: Evaluation::new(start.copy()?, 0),
-            low: Evaluation::new(start.copy()?, 0),
-            step: Step::Opened,
+            high: OpenAsk::new(start.copy()?, 0),
+            low: OpenAsk::new(start.copy()?, 0),
+            phase: Phase::Opened,
         })
     }
 
@@ -152,48 +156,48 @@ impl Comparison {
 
     /// How far it is.
     pub fn stage(&self) -> Stage
-        ensures { result ≡ stage_of (stage_at self.now.last self.now.place) }
+        ensures { result ≡ stage_of (stage_at self.now.last self.now.phase) }
     {
-        match self.step {
-            Step::Opened => Stage::Ready,
-            Step::High { .. } | Step::Low { .. } | Step::Further => Stage::Asking,
-            Step::Compared(won) => Stage::Decided(won),
+        match self.phase {
+            Phase::Opened => Stage::Ready,
+            Phase::High { .. } | Phase::Low { .. } | Phase::Further => Stage::Asking,
+            Phase::Compared(won) => Stage::Decided(won),
         }
     }
 
     /// Whether the incumbent goes first.
     pub fn is_incumbent_first(&self) -> bool
-        ensures { result ≡ goes_first self.now.last self.now.place }
+        ensures { result ≡ state.is_incumbent_first self.now.last self.now.phase }
     {
-        match self.step {
-            Step::High { .. } => is_overtaken(&self.incumbent, self.runs, &self.high),
-            Step::Further => {
+        match self.phase {
+            Phase::High { .. } => is_overtaken(&self.incumbent, self.runs, &self.high),
+            Phase::Further => {
                 let first = first_of(self.first_is_low, &self.high, &self.low);
                 is_overtaken(&self.incumbent, self.runs, first)
             }
-            Step::Opened | Step::Low { .. } | Step::Compared(_) => false,
+            Phase::Opened | Phase::Low { .. } | Phase::Compared(_) => false,
         }
     }
 
     /// The evaluation that is asked for.
-    pub fn asked(&self) -> &Evaluation
+    pub fn asked(&self) -> &OpenAsk
         requires { IsAsking self.now }
         ensures { result.now ≡ asked_in self.now }
     {
         if self.is_incumbent_first() {
             return &self.incumbent;
         }
-        match self.step {
-            Step::Low { .. } => &self.low,
-            Step::Further => first_of(self.first_is_low, &self.high, &self.low),
-            Step::High { .. } | Step::Opened | Step::Compared(_) => &self.high,
+        match self.phase {
+            Phase::Low { .. } => &self.low,
+            Phase::Further => first_of(self.first_is_low, &self.high, &self.low),
+            Phase::High { .. } | Phase::Opened | Phase::Compared(_) => &self.high,
         }
     }
 
     /// Whether this cost makes a new incumbent.
     pub fn is_better(&self, sum: Sum) -> bool
         requires { IsAsking self.now }
-        ensures { result ≡ better_by self.now.last (asked_in self.now).config (asked_in self.now).places sum.0 }
+        ensures { let asked = asked_in self.now in result ≡ state.is_better self.now.last asked.config asked.places sum.0 }
     {
         let asked = self.asked();
         let same = same_values(asked.config().values(), self.incumbent.config().values());
@@ -203,7 +207,8 @@ impl Comparison {
     /// The entry of what is evaluated, with this cost.
     pub fn entry(&self, sum: Sum) -> Result<Entry, Memory>
         requires { IsAsking self.now }
-        ensures { IfOk result (λ e. e ≡ entry_of self.now.last (asked_in self.now).config (asked_in self.now).places sum.0) }
+        ensures { let asked = asked_in self.now in
+            IfOk result (λ e. e ≡ state.entry self.now.last asked.config asked.places sum.0) }
     {
         let asked = self.asked();
         Ok(Entry {
@@ -217,10 +222,10 @@ impl Comparison {
     /// A configuration that was evaluated with this cost becomes the incumbent.
     pub fn renew(&mut self, config: Config, sum: Sum)
         requires { IsAsking self.old }
-        ensures { self.new ≡ record self.old { last = entry_of self.old.last config (asked_in self.old).places sum.0 } }
+        ensures { self.new ≡ record self.old { last = state.entry self.old.last config (asked_in self.old).places sum.0 } }
     {
         let places = self.asked().places();
-        self.incumbent = Evaluation::new(config, places);
+        self.incumbent = OpenAsk::new(config, places);
         self.runs = places;
         self.sum = sum;
     }
@@ -250,14 +255,14 @@ impl Comparison {
         compared: u32,
     )
         ensures { let turn : Turn = record { first_is_low = first_is_low; low = low; high = high; places = places; more = more } in
-            self.new ≡ record { last = record self.old.last { compared = compared }; place = High turn } }
+            self.new ≡ record { last = record self.old.last { compared = compared }; phase = High turn } }
     {
         self.compared = compared;
         self.incumbent.ask_in_full(places);
         self.first_is_low = first_is_low;
-        self.high = Evaluation::new(high, places);
-        self.low = Evaluation::new(low, places);
-        self.step = Step::High { more };
+        self.high = OpenAsk::new(high, places);
+        self.low = OpenAsk::new(low, places);
+        self.phase = Phase::High { more };
     }
 
     /// A comparison of this number begins, of two configurations with so many runs.
@@ -282,23 +287,23 @@ impl Comparison {
         }
     }
 
-    /// Goes to the next place, by the reply to what was asked for.
+    /// Goes to the next phase, by the reply to what was asked for.
     pub fn go_on(&mut self, counts: &Counts, max_runs: u32, bonus: u32, reply: Reply)
-        ensures { self.new ≡ record self.old { place = place_next max_runs counts.now bonus self.old.place reply } }
+        ensures { self.new ≡ record self.old { phase = phase_next max_runs counts.now bonus self.old.phase reply } }
     {
-        match (self.step, reply) {
-            (Step::Opened | Step::Compared(_), _) => {}
-            (Step::High { more }, Reply::Exact(bound)) => {
+        match (self.phase, reply) {
+            (Phase::Opened | Phase::Compared(_), _) => {}
+            (Phase::High { more }, Reply::Exact(bound)) => {
                 self.low.ask_up_to(self.high.places(), bound);
-                self.step = Step::Low { more, bound };
+                self.phase = Phase::Low { more, bound };
             }
-            (Step::High { .. }, Reply::Exceeds) => self.step = Step::Compared(false),
-            (Step::Low { more, bound }, _) => {
+            (Phase::High { .. }, Reply::Exceeds) => self.phase = Phase::Compared(false),
+            (Phase::Low { more, bound }, _) => {
                 let low = low_dominates(counts, &self.high, reply);
                 let high = high_dominates(bound, reply);
                 self.end_turn(counts, max_runs, bonus, more, low, high);
             }
-            (Step::Further, _) => self.step = Step::Compared(true),
+            (Phase::Further, _) => self.phase = Phase::Compared(true),
         }
     }
 
@@ -312,55 +317,56 @@ impl Comparison {
         low: bool,
         high: bool,
     )
-        ensures { IfLow self.old.place (λ turn. more ≡ turn.more
-            → self.new ≡ record self.old { place = place_after_turn max_runs counts.now bonus turn low high }) }
+        ensures { IfLow self.old.phase (λ turn. more ≡ turn.more
+            → self.new ≡ record self.old { phase = phase_after_turn max_runs counts.now bonus turn low high }) }
     {
         if !low && !high {
             if more == 0 {
-                self.step = Step::Compared(false);
+                self.phase = Phase::Compared(false);
             } else {
                 let places = next_places(self.high.places(), max_runs);
                 self.high.ask_in_full(places);
                 self.incumbent.ask_in_full(places);
-                self.step = Step::High { more: more - 1 };
+                self.phase = Phase::High { more: more - 1 };
             }
         } else if self.first_is_low && low {
             let places = further_places(counts.runs(self.low.config()), bonus, max_runs);
             self.low.ask_in_full(places);
             self.incumbent.ask_in_full(places);
-            self.step = Step::Further;
+            self.phase = Phase::Further;
         } else if !self.first_is_low && high {
             let places = further_places(counts.runs(self.high.config()), bonus, max_runs);
             self.high.ask_in_full(places);
             self.incumbent.ask_in_full(places);
-            self.step = Step::Further;
+            self.phase = Phase::Further;
         } else {
-            self.step = Step::Compared(false);
+            self.phase = Phase::Compared(false);
         }
     }
 
     /// The bonus that is left after the reply: the winner's further evaluation uses it up.
     pub fn bonus_left(&self, bonus: u32) -> u32
-        ensures { result ≡ bonus_next self.now.place bonus }
+        ensures { result ≡ bonus_next self.now.phase bonus }
     {
-        match self.step {
-            Step::Further => 0,
-            Step::Opened | Step::High { .. } | Step::Low { .. } | Step::Compared(_) => bonus,
+        match self.phase {
+            Phase::Further => 0,
+            Phase::Opened | Phase::High { .. } | Phase::Low { .. } | Phase::Compared(_) => bonus,
         }
     }
 
     /// What the comparison comes to by this reply, or nothing where an ask follows.
     pub fn decided_by(&self, counts: &Counts, reply: Reply) -> Option<bool>
-        ensures { (max_runs bonus : ℕ) → result ≡ decision_in (stage_at self.now.last (place_from max_runs counts.now bonus self.now reply)) }
+        ensures { (max_runs bonus : ℕ)
+            → result ≡ decision_in (stage_at self.now.last (phase_from max_runs counts.now bonus self.now reply)) }
     {
         if self.is_incumbent_first() {
             return None;
         }
-        match (self.step, reply) {
-            (Step::Opened, _) => Some(false),
-            (Step::High { .. }, Reply::Exact(_)) => None,
-            (Step::High { .. }, Reply::Exceeds) => Some(false),
-            (Step::Low { more, bound }, _) => {
+        match (self.phase, reply) {
+            (Phase::Opened, _) => Some(false),
+            (Phase::High { .. }, Reply::Exact(_)) => None,
+            (Phase::High { .. }, Reply::Exceeds) => Some(false),
+            (Phase::Low { more, bound }, _) => {
                 let low = low_dominates(counts, &self.high, reply);
                 let high = high_dominates(bound, reply);
                 let first = if self.first_is_low { low } else { high };
@@ -370,8 +376,8 @@ impl Comparison {
                     Some(false)
                 }
             }
-            (Step::Further, _) => Some(true),
-            (Step::Compared(won), _) => Some(won),
+            (Phase::Further, _) => Some(true),
+            (Phase::Compared(won), _) => Some(won),
         }
     }
 
@@ -387,7 +393,7 @@ impl Comparison {
             first_is_low: self.first_is_low,
             high: self.high.copy()?,
             low: self.low.copy()?,
-            step: self.step,
+            phase: self.phase,
         })
     }
 }

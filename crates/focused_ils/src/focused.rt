@@ -42,7 +42,12 @@ impl Model for Focused {
 
     ghost use Rattle.focused_ils.specs.View.{IsBonus};
 
-    ghost view = { λ f. record { max_runs = f.max_runs; tally = record { counts = f.counts; last = f.comparison.last; bonus = f.bonus }; place = f.comparison.place; entries = f.entries } };
+    ghost view = { λ f. record {
+      max_runs = f.max_runs;
+      tally = record { counts = f.counts; last = f.comparison.last; bonus = f.bonus };
+      phase = f.comparison.phase;
+      entries = f.entries;
+    } };
 
     ghost invariant = { λ f. IsBonus f.comparison.last.compared f.bonus };
 }
@@ -65,7 +70,7 @@ impl Focused {
     /// Counts the evaluation that was asked for, and keeps the new incumbent. Where there is
     /// no memory left, all is as it was.
     fn count(&mut self, reply: Reply) -> Result<(), Memory>
-        requires { IsSome (question_in (stage_at self.old.tally.last self.old.place)) }
+        requires { IsSome (question_in (stage_at self.old.tally.last self.old.phase)) }
         ensures ok { OnOk result (self.new ≡ state_counted self.old reply) }
         ensures err { OnErr result (self.new ≡ self.old) }
     {
@@ -89,7 +94,7 @@ impl Focused {
         Ok(())
     }
 
-    /// Goes to the next place. Takes no memory.
+    /// Goes to the next phase. Takes no memory.
     fn go_on(&mut self, reply: Reply)
         ensures { self.new ≡ state_next self.old reply }
     {

@@ -4,8 +4,8 @@
 
 mod comparison;
 mod counts;
-mod evaluation;
 mod focused;
-mod step;
+mod open_ask;
+mod phase;
 
 pub use focused::Focused;

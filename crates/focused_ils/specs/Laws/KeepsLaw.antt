@@ -21,7 +21,7 @@ use Rattle.ils_face.specs.declared.asks.Reply.TheVariants.{Exceeds}
 use Rattle.ils_frame.specs.Comparers.{Asking, question_in, decision_in, Advanced, GoesOn, Starts, AreCostsKnown, opened_state, Keeps}
 use Rattle.ils_frame.proofs.CountedCosts.{counts_after-known}
 use Rattle.focused_ils.specs.Counts.{Counts, count_in, raised}
-use Rattle.focused_ils.specs.State.{Turn, Place, Opened, High, Low, Further, Compared, Tally, State, is_overtaken, one_of, full_where, question_at, stage_at, is_better, is_extended, entry, last_where, last_after, entry_where, added_by, low_dominates, high_dominates, first_in, first_dominates, place_by, next_turn, place_after_turn, after_evaluation, win_where, replied_by, bonus_next, cleared_at, decision_after, turns_after, turn_from_low, coming_at, coming_in, focused_parts, state_from, first_state, HasMostRuns, IsTurn, IsPlaceFit, IsFit, IsBound, StandsAt, Stands}
+use Rattle.focused_ils.specs.State.{Turn, Phase, Opened, High, Low, Further, Compared, Tally, State, is_overtaken, one_of, full_where, question_at, stage_at, is_better, is_extended, entry, last_where, last_after, entry_where, added_by, low_dominates, high_dominates, first_in, first_dominates, phase_by, next_turn, phase_after_turn, after_evaluation, win_where, replied_by, bonus_next, cleared_at, decision_after, turns_after, turn_from_low, coming_at, coming_in, focused_parts, state_from, first_state, HasMostRuns, IsTurn, IsPhaseFit, IsFit, IsBound, StandsAt, Stands}
 use Rattle.focused_ils.specs.Laws.Counting.{count-none, raised-itself, raised-grows, raised-same}
 use Rattle.focused_ils.specs.Laws.Tallies.{exactly, not_overtaken, extended-where, no_better-itself}
 use Rattle.focused_ils.specs.Laws.SteadyLaw.{at_question}
@@ -104,7 +104,7 @@ module _ (q : Question) (x : ℕ) (last : Incumbent) (s : PlainState) where
 
 -- ---- what it stands for
 
--- all but the place
+-- all but the phase
 pub record StandsFor (sums : Sums) (t : Tally) (s : PlainState) : Type 0 where
   pub incumbent : s.incumbent ≡ t.last.config
   pub compared : s.compared ≡ t.last.compared
@@ -141,9 +141,9 @@ module _ (sums : Sums) (t : Tally) (s : PlainState) (k : StandsFor sums t s) whe
     cost = k.cost;
   }
 
-  -- at the next place, or at the same one
-  stands_next : (place : Place) (b : Bool) → StandsFor sums (record t { bonus = if b then t.bonus else bonus_next place t.bonus }) (if b then s else cleared_at place s)
-  stands_next place true = k
+  -- at the next phase, or at the same one
+  stands_next : (phase : Phase) (b : Bool) → StandsFor sums (record t { bonus = if b then t.bonus else bonus_next phase t.bonus }) (if b then s else cleared_at phase s)
+  stands_next phase true = k
   stands_next Opened false = k
   stands_next (High turn) false = k
   stands_next (Low turn bound) false = k
@@ -153,21 +153,21 @@ module _ (sums : Sums) (t : Tally) (s : PlainState) (k : StandsFor sums t s) whe
   incumbent_so : HasMostRuns t → IsIncumbent sums t.last s
   incumbent_so f = record { config = k.incumbent; runs = k.counts t.last.config ∙ f.top; cost = k.cost }
 
-with_place : (n : ℕ) (sums : Sums) (t : Tally) (place : Place) (entries : List Incumbent) (s : PlainState) → StandsFor sums t s → StandsAt sums t.last place
-    → Stands sums (record { max_runs = n; tally = t; place = place; entries = entries }) s
-with_place n sums t place entries s k p = record { incumbent = k.incumbent; compared = k.compared; bonus = k.bonus; counts = k.counts; known = k.known; cost = k.cost; place = p }
+with_phase : (n : ℕ) (sums : Sums) (t : Tally) (phase : Phase) (entries : List Incumbent) (s : PlainState) → StandsFor sums t s → StandsAt sums t.last phase
+    → Stands sums (record { max_runs = n; tally = t; phase = phase; entries = entries }) s
+with_phase n sums t phase entries s k p = record { incumbent = k.incumbent; compared = k.compared; bonus = k.bonus; counts = k.counts; known = k.known; cost = k.cost; phase = p }
 
-without_place : (sums : Sums) (c : State) (s : PlainState) → Stands sums c s → StandsFor sums c.tally s
-without_place sums c s k = record { incumbent = k.incumbent; compared = k.compared; bonus = k.bonus; counts = k.counts; known = k.known; cost = k.cost }
+without_phase : (sums : Sums) (c : State) (s : PlainState) → Stands sums c s → StandsFor sums c.tally s
+without_phase sums c s k = record { incumbent = k.incumbent; compared = k.compared; bonus = k.bonus; counts = k.counts; known = k.known; cost = k.cost }
 
 -- ---- a reply
 
 module _ (setup : Setup) (sums : Sums) (n : ℕ) (m : setup.max_runs ≡ n) (allowed : Settings → Type 0) (t : Tally) (entries : List Incumbent) (s : PlainState) (f : HasMostRuns t) (k : StandsFor sums t s) where
-  abbrev at_place : Place → State
-  at_place place = record { max_runs = n; tally = t; place = place; entries = entries }
+  abbrev at_phase : Phase → State
+  at_phase phase = record { max_runs = n; tally = t; phase = phase; entries = entries }
 
-  abbrev GoesOnBy : Place → Question → Reply → Type 0
-  GoesOnBy place q r = GoesOn focused_parts (Stands sums) (coming_in setup sums) (at_place place) s q r
+  abbrev GoesOnBy : Phase → Question → Reply → Type 0
+  GoesOnBy phase q r = GoesOn focused_parts (Stands sums) (coming_in setup sums) (at_phase phase) s q r
 
   is_incumbent : IsIncumbent sums t.last s
   is_incumbent = incumbent_so sums t s k f
@@ -191,8 +191,8 @@ module _ (setup : Setup) (sums : Sums) (n : ℕ) (m : setup.max_runs ≡ n) (all
   high_bound turn x true e = tt
   high_bound turn x false e = record { cost = e; least = least_after sums t.last k.cost (record { config = turn.high; places = turn.places; bound = None }) x e }
 
-  next_advanced : (place : Place) (b : Bool) (q : Question) (r : Reply) (p : PlainState) → Advanced s p q (added_by t.last q r) → Advanced s (if b then p else cleared_at place p) q (added_by t.last q r)
-  next_advanced place true q r p a = a
+  next_advanced : (phase : Phase) (b : Bool) (q : Question) (r : Reply) (p : PlainState) → Advanced s p q (added_by t.last q r) → Advanced s (if b then p else cleared_at phase p) q (added_by t.last q r)
+  next_advanced phase true q r p a = a
   next_advanced Opened false q r p a = a
   next_advanced (High turn) false q r p a = a
   next_advanced (Low turn bound) false q r p a = a
@@ -204,7 +204,7 @@ module _ (setup : Setup) (sums : Sums) (n : ℕ) (m : setup.max_runs ≡ n) (all
       let q : Question = question_at t.last (High turn) in
       let o : Bool = is_overtaken t.last turn.high turn.places in
       record {
-        stays = with_place n sums _ _ _ _ (stands_next sums _ _ (stands_after sums t s k q x e) (High turn) o) (high_bound turn x o e);
+        stays = with_phase n sums _ _ _ _ (stands_next sums _ _ (stands_after sums t s k q x e) (High turn) o) (high_bound turn x o e);
         same = high_goes turn x o refl e;
         advanced = next_advanced (High turn) o q (exactly x) _ (advanced_by q x t.last s (is_better t.last q.config q.places x) k.compared);
       }
@@ -227,21 +227,21 @@ module _ (setup : Setup) (sums : Sums) (n : ℕ) (m : setup.max_runs ≡ n) (all
       let q : Question = question_at t.last (Further θ i) in
       let o : Bool = is_overtaken t.last θ i in
       record {
-        stays = with_place n sums _ _ _ _ (stands_next sums _ _ (stands_after sums t s k q x e) (Further θ i) o) (further_stands θ i o (last_after t.last q (exactly x)));
+        stays = with_phase n sums _ _ _ _ (stands_next sums _ _ (stands_after sums t s k q x e) (Further θ i) o) (further_stands θ i o (last_after t.last q (exactly x)));
         same = further_goes θ i x o refl e;
         advanced = next_advanced (Further θ i) o q (exactly x) _ (advanced_by q x t.last s (is_better t.last q.config q.places x) k.compared);
       }
 
   -- ---- the one that catches up
 
-  turn_stands : (turn : Turn) (counts : Counts) (low high : Bool) (last : Incumbent) → StandsAt sums last (place_after_turn n counts t.bonus turn low high)
+  turn_stands : (turn : Turn) (counts : Counts) (low high : Bool) (last : Incumbent) → StandsAt sums last (phase_after_turn n counts t.bonus turn low high)
   turn_stands turn counts low high last = at_either (low || high) turn.more
     where
-      at_end : (won : Bool) → StandsAt sums last (place_by won n counts t.bonus (first_in turn))
+      at_end : (won : Bool) → StandsAt sums last (phase_by won n counts t.bonus (first_in turn))
       at_end true = tt
       at_end false = tt
 
-      at_either : (over : Bool) (more : ℕ) → StandsAt sums last (if over then place_by (first_dominates turn low high) n counts t.bonus (first_in turn) else next_turn n turn more)
+      at_either : (over : Bool) (more : ℕ) → StandsAt sums last (if over then phase_by (first_dominates turn low high) n counts t.bonus (first_in turn) else next_turn n turn more)
       at_either true more = at_end (first_dominates turn low high)
       at_either false zero = tt
       at_either false (suc more) = tt
@@ -269,11 +269,11 @@ module _ (setup : Setup) (sums : Sums) (n : ℕ) (m : setup.max_runs ≡ n) (all
     low_goes = ap (λ p. goes_on (goes_on p (λ y. turns_after setup sums turn)) (λ u. decision_after setup sums turn))
         (evaluate-known sums t.last s is_incumbent turn.low turn.places (Some bound) x within e)
 
-    -- the place after the turn, by who dominates
-    abbrev place_then : Place
-    place_then = place_after_turn n counts_then t.bonus turn (nat_le (count_in counts_then turn.high) turn.places && nat_le x bound) (nat_le bound x)
+    -- the phase after the turn, by who dominates
+    abbrev phase_then : Phase
+    phase_then = phase_after_turn n counts_then t.bonus turn (nat_le (count_in counts_then turn.high) turn.places && nat_le x bound) (nat_le bound x)
 
-    turn_goes : coming_at setup sums (Low turn bound) s ≡ coming_at setup sums place_then after_low
+    turn_goes : coming_at setup sums (Low turn bound) s ≡ coming_at setup sums phase_then after_low
     turn_goes =
         let w : Bool = is_better t.last turn.low turn.places x in
         let same : (φ : Settings) → after_low.counts φ ≡ count_in counts_then φ = counts_after_win its_question x t.last s w t.counts k.counts in
@@ -284,13 +284,13 @@ module _ (setup : Setup) (sums : Sums) (n : ℕ) (m : setup.max_runs ≡ n) (all
 
     low_replied : (b : Bool) → nat_le x bound ≡ b → GoesOnBy (Low turn bound) its_question (if b then exactly x else Exceeds)
     low_replied true u = record {
-      stays = with_place n sums _ _ _ _ (stands_after sums t s k its_question x e)
+      stays = with_phase n sums _ _ _ _ (stands_after sums t s k its_question x e)
           (turn_stands turn counts_then (low_dominates counts_then turn.high turn.places (exactly x)) (high_dominates bound (exactly x)) (last_after t.last its_question (exactly x)));
       same = turn_goes ∙ rw (u, and-true (nat_le (count_in counts_then turn.high) turn.places)) refl;
       advanced = advanced_by its_question x t.last s (is_better t.last turn.low turn.places x) k.compared;
     }
     low_replied false u = record {
-      stays = with_place n sums _ _ _ _ (stands_exceeded sums t s k its_question x e) (turn_stands turn counts_then false true t.last);
+      stays = with_phase n sums _ _ _ _ (stands_exceeded sums t s k its_question x e) (turn_stands turn counts_then false true t.last);
       same =
           let o : bound < x = leb-false x bound u in
           turn_goes
@@ -298,27 +298,27 @@ module _ (setup : Setup) (sums : Sums) (n : ℕ) (m : setup.max_runs ≡ n) (all
       advanced = advanced_by its_question x t.last s false k.compared;
     }
 
-  -- ---- by the place
+  -- ---- by the phase
 
-  abbrev Replied : Place → Question → Type 0
-  Replied place q = (x : ℕ) → cost_asked sums q ≡ Some x → GoesOnBy place q (reply_up_to x q.bound)
+  abbrev Replied : Phase → Question → Type 0
+  Replied phase q = (x : ℕ) → cost_asked sums q ≡ Some x → GoesOnBy phase q (reply_up_to x q.bound)
 
-  replied : (place : Place) → IsPlaceFit allowed n t place → StandsAt sums t.last place → IfSome (question_in (stage_at t.last place)) (Replied place)
+  replied : (phase : Phase) → IsPhaseFit allowed n t phase → StandsAt sums t.last phase → IfSome (question_in (stage_at t.last phase)) (Replied phase)
   replied Opened p h = tt
   replied (High turn) p h = high_replied turn
   replied (Low turn bound) p h = λ x e. low_replied turn p.1 p.2 bound h x e (nat_le x bound) refl
   replied (Further θ i) p h = further_replied θ i
   replied (Compared won) p h = tt
 
-  abbrev Aborts : Place → Question → Type 0
-  Aborts place q = cost_asked sums q ≡ None → coming_at setup sums place s ≡ Ends (after_ask q.config q.places q.bound s) Aborted
+  abbrev Aborts : Phase → Question → Type 0
+  Aborts phase q = cost_asked sums q ≡ None → coming_at setup sums phase s ≡ Ends (after_ask q.config q.places q.bound s) Aborted
 
   in_full_aborts : (θ : Settings) (i : ℕ) (b : Bool) → is_overtaken t.last θ i ≡ b → sums (one_of b t.last.config θ) i ≡ None
       → evaluate sums θ i None s ≡ Ends (after_ask (one_of b t.last.config θ) i None s) Aborted
   in_full_aborts θ i true o e = evaluate-stopped sums t.last s is_incumbent θ i None o e
   in_full_aborts θ i false o e = evaluate-unknown sums t.last s is_incumbent θ i None o e
 
-  aborts : (place : Place) → IsPlaceFit allowed n t place → IfSome (question_in (stage_at t.last place)) (Aborts place)
+  aborts : (phase : Phase) → IsPhaseFit allowed n t phase → IfSome (question_in (stage_at t.last phase)) (Aborts phase)
   aborts Opened p = tt
   aborts (High turn) p = λ e. rw (in_full_aborts turn.high turn.places (is_overtaken t.last turn.high turn.places) refl e) refl
   aborts (Low turn bound) p = λ e.
@@ -333,7 +333,7 @@ module _ (setup : Setup) (sums : Sums) (n : ℕ) (m : setup.max_runs ≡ n) (all
 last_known : (sums : Sums) (t : Tally) (s : PlainState) → HasMostRuns t → StandsFor sums t s → t.last ≡ last_of sums s
 last_known sums t s f k = rw (k.incumbent, k.compared, k.counts t.last.config, f.top, k.cost) refl
 
-ended_at : (setup : Setup) (sums : Sums) (last : Incumbent) (place : Place) (s : PlainState) (b : Bool) → decision_in (stage_at last place) ≡ Some b → coming_at setup sums place s ≡ Goes s b
+ended_at : (setup : Setup) (sums : Sums) (last : Incumbent) (phase : Phase) (s : PlainState) (b : Bool) → decision_in (stage_at last phase) ≡ Some b → coming_at setup sums phase s ≡ Goes s b
 ended_at setup sums last Opened s b e = let t : false ≡ b = cc in ap (Goes s) t
 ended_at setup sums last (High turn) s b e = absurd (cc)
 ended_at setup sums last (Low turn bound) s b e = absurd (cc)
@@ -351,17 +351,17 @@ module _ (setup : Setup) (sums : Sums) (n : ℕ) (m : setup.max_runs ≡ n) (all
   runs_so : setup.max_runs ≡ c.max_runs
   runs_so = m ∙ sym f.runs
 
-  place_so : IsPlaceFit allowed c.max_runs c.tally c.place
-  place_so = rw f.runs f.place
+  phase_so : IsPhaseFit allowed c.max_runs c.tally c.phase
+  phase_so = rw f.runs f.phase
 
   answered : (q : Question) (x : ℕ) → focused_parts.stage c ≡ Asking q → cost_asked sums q ≡ Some x
       → GoesOn focused_parts (Stands sums) (coming_in setup sums) c s q (reply_up_to x q.bound)
-  answered q x a e = at_question (focused_parts.stage c) (Replied setup sums c.max_runs runs_so allowed c.tally c.entries s f.tally (without_place sums c s k) c.place)
-      (replied setup sums c.max_runs runs_so allowed c.tally c.entries s f.tally (without_place sums c s k) c.place place_so k.place) q a x e
+  answered q x a e = at_question (focused_parts.stage c) (Replied setup sums c.max_runs runs_so allowed c.tally c.entries s f.tally (without_phase sums c s k) c.phase)
+      (replied setup sums c.max_runs runs_so allowed c.tally c.entries s f.tally (without_phase sums c s k) c.phase phase_so k.phase) q a x e
 
   aborted : (q : Question) → focused_parts.stage c ≡ Asking q → cost_asked sums q ≡ None → coming_in setup sums c s ≡ Ends (after_ask q.config q.places q.bound s) Aborted
-  aborted q a e = at_question (focused_parts.stage c) (Aborts setup sums c.max_runs runs_so allowed c.tally c.entries s f.tally (without_place sums c s k) c.place)
-      (aborts setup sums c.max_runs runs_so allowed c.tally c.entries s f.tally (without_place sums c s k) c.place place_so) q a e
+  aborted q a e = at_question (focused_parts.stage c) (Aborts setup sums c.max_runs runs_so allowed c.tally c.entries s f.tally (without_phase sums c s k) c.phase)
+      (aborts setup sums c.max_runs runs_so allowed c.tally c.entries s f.tally (without_phase sums c s k) c.phase phase_so) q a e
 
   begins : (θ φ : Settings) (j : ℕ) → Starts focused_parts (Stands sums) (coming_in setup sums) (better_focused setup sums) c θ φ j s
   begins θ φ j = record {
@@ -372,7 +372,7 @@ module _ (setup : Setup) (sums : Sums) (n : ℕ) (m : setup.max_runs ≡ n) (all
       counts = k.counts;
       known = k.known;
       cost = k.cost;
-      place = tt;
+      phase = tt;
     };
     same = begins-so setup sums c.max_runs runs_so c.tally.counts s k.counts θ φ j;
     unasked = record { asks = refl; entries = refl; event = refl };
@@ -382,15 +382,15 @@ module _ (setup : Setup) (sums : Sums) (n : ℕ) (m : setup.max_runs ≡ n) (all
 pub focused_keeps : (n : ℕ) (allowed : Settings → Type 0) (start : Settings) (setup : Setup) (sums : Sums) → setup.max_runs ≡ n → setup.start ≡ start → ((θ : Settings) → sums θ 0 ≡ Some 0)
     → Keeps focused_parts (IsFit n allowed) (Stands sums) (coming_in setup sums) (better_focused setup sums) (opening_focused setup) setup sums (state_from n start)
 focused_keeps n allowed start setup sums m b nothing = record {
-  opened = record { incumbent = b; compared = refl; bonus = refl; counts = λ φ. sym (count-none φ); known = λ φ. rw (nothing φ) refl; cost = nothing start; place = tt };
+  opened = record { incumbent = b; compared = refl; bonus = refl; counts = λ φ. sym (count-none φ); known = λ φ. rw (nothing φ) refl; cost = nothing start; phase = tt };
   opens = opens setup sums start b;
-  redrawn = λ c s e k. record { incumbent = k.incumbent; compared = k.compared; bonus = k.bonus; counts = k.counts; known = k.known; cost = k.cost; place = k.place };
+  redrawn = λ c s e k. record { incumbent = k.incumbent; compared = k.compared; bonus = k.bonus; counts = k.counts; known = k.known; cost = k.cost; phase = k.phase };
   answered = λ c s q x f k a e. answered setup sums n m allowed c s f k q x a e;
   aborts = λ c s q f k a e. aborted setup sums n m allowed c s f k q a e;
   begins = λ c s θ φ j f k none. begins setup sums n m allowed c s f k θ φ j;
   known = λ c s f k. k.known;
-  ended = λ c s b e. ended_at setup sums c.tally.last c.place s b e;
-  last = λ c s f k. last_known sums c.tally s f.tally (without_place sums c s k);
+  ended = λ c s b e. ended_at setup sums c.tally.last c.phase s b e;
+  last = λ c s f k. last_known sums c.tally s f.tally (without_phase sums c s k);
 }
 
 -- under the rules of a search, with the replies of a table

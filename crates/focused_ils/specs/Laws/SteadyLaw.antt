@@ -11,7 +11,7 @@ use Rattle.ils_face.specs.declared.asks.Reply.{Reply}
 use Rattle.ils_face.specs.declared.asks.Reply.TheVariants.{Exact, Exceeds}
 use Rattle.ils_frame.specs.Comparers.{AskedStage, Ready, Asking, Decided, question_in, Answered, Begun, InRange, IsSteadyComparer}
 use Rattle.focused_ils.specs.Counts.{Counts, count_in, raised}
-use Rattle.focused_ils.specs.State.{Turn, Place, Opened, High, Low, Further, Compared, Tally, State, is_overtaken, one_of, full_where, in_full, question_at, stage_at, last_after, first_in, first_dominates, place_by, next_turn, place_after_turn, low_dominates, high_dominates, place_after, tally_after, first_turn, one_where, left_at, focused_parts, first_incumbent, state_from, first_state, HasMostRuns, IsTurn, IsPlaceFit, IsFit}
+use Rattle.focused_ils.specs.State.{Turn, Phase, Opened, High, Low, Further, Compared, Tally, State, is_overtaken, one_of, full_where, in_full, question_at, stage_at, last_after, first_in, first_dominates, phase_by, next_turn, phase_after_turn, low_dominates, high_dominates, phase_after, tally_after, first_turn, one_where, left_at, focused_parts, first_incumbent, state_from, first_state, HasMostRuns, IsTurn, IsPhaseFit, IsFit}
 use Rattle.focused_ils.specs.Laws.Counting.{count-none, raised-new, raised-grows, raised-most}
 use Rattle.focused_ils.specs.Laws.Tallies.{exactly, overtaken-where, not_overtaken, not_overtaken-due, last-extended, last-compared, last-earned, most-kept, most-after, trajectory-after, earlier-after, entered-after}
 
@@ -21,8 +21,8 @@ use Rattle.focused_ils.specs.Laws.Tallies.{exactly, overtaken-where, not_overtak
 pub at_question : (stage : AskedStage) (P : Question → Type 0) → IfSome (question_in stage) P → (q : Question) → stage ≡ Asking q → P q
 at_question stage P h q e = subst (λ p. IfSome (question_in p) P) e h
 
--- the open question is the one of the place
-pub question_so : (last : Incumbent) (place : Place) → IfSome (question_in (stage_at last place)) (λ q. q ≡ question_at last place)
+-- the open question is the one of the phase
+pub question_so : (last : Incumbent) (phase : Phase) → IfSome (question_in (stage_at last phase)) (λ q. q ≡ question_at last phase)
 question_so last Opened = tt
 question_so last (High turn) = refl
 question_so last (Low turn bound) = refl
@@ -53,13 +53,13 @@ module _ (allowed : Settings → Type 0) (n : ℕ) where
 
     -- after the reply to the one with more runs, or to the incumbent before it
     high_fit : (turn : Turn) (incumbent : Settings) (x : ℕ) (b : Bool) → IsTurn allowed n counts turn
-        → IsPlaceFit allowed n (after_raise (one_of b incumbent turn.high) turn.places) (if b then High turn else Low turn x)
+        → IsPhaseFit allowed n (after_raise (one_of b incumbent turn.high) turn.places) (if b then High turn else Low turn x)
     high_fit turn incumbent x true f = (later, turn-kept counts incumbent turn f)
     high_fit turn incumbent x false f = (later, turn-kept counts turn.high turn f, raised-new counts turn.high turn.places)
 
     -- after a turn
     turn_fit : (turn : Turn) (worth : ℕ) (low high : Bool) → IsTurn allowed n counts turn → turn.places ≤ count_in counts turn.high → count_in counts turn.high ≤ n
-        → IsPlaceFit allowed n (after_raise turn.low turn.places) (place_after_turn n (raised counts turn.low turn.places) worth turn low high)
+        → IsPhaseFit allowed n (after_raise turn.low turn.places) (phase_after_turn n (raised counts turn.low turn.places) worth turn low high)
     turn_fit turn worth low high f ahead few = at_either (low || high) turn.more (raised-most counts turn.low turn.places turn.high (turn.places + turn.more) f.enough (omega arith))
       where
         some : 1 ≤ turn.places
@@ -75,12 +75,12 @@ module _ (allowed : Settings → Type 0) (n : ℕ) where
         first_some true = let r : turn.places ≤ count_in (raised counts turn.low turn.places) turn.low = raised-new counts turn.low turn.places in omega (arith, r, some)
         first_some false = let r : count_in counts turn.high ≤ count_in (raised counts turn.low turn.places) turn.high = raised-grows counts turn.low turn.places turn.high in omega (arith, r, some, ahead)
 
-        at_end : (won : Bool) → IsPlaceFit allowed n (after_raise turn.low turn.places) (place_by won n (raised counts turn.low turn.places) worth (first_in turn))
+        at_end : (won : Bool) → IsPhaseFit allowed n (after_raise turn.low turn.places) (phase_by won n (raised counts turn.low turn.places) worth (first_in turn))
         at_end true = (later, one_allowed turn.first_is_low turn.low turn.high f.low f.high, (let r = first_some turn.first_is_low in omega (arith, r, some, within)), omega arith)
         at_end false = later
 
-        at_either : (over : Bool) (more : ℕ) → count_in (raised counts turn.low turn.places) turn.high ≤ turn.places + more → IsPlaceFit allowed n (after_raise turn.low turn.places)
-            (if over then place_by (first_dominates turn low high) n (raised counts turn.low turn.places) worth (first_in turn) else next_turn n turn more)
+        at_either : (over : Bool) (more : ℕ) → count_in (raised counts turn.low turn.places) turn.high ≤ turn.places + more → IsPhaseFit allowed n (after_raise turn.low turn.places)
+            (if over then phase_by (first_dominates turn low high) n (raised counts turn.low turn.places) worth (first_in turn) else next_turn n turn more)
         at_either true more e = at_end (first_dominates turn low high)
         at_either false zero e = later
         at_either false (suc more) e = (
@@ -97,19 +97,19 @@ module _ (allowed : Settings → Type 0) (n : ℕ) where
 
     -- after the reply to the winner, or to the incumbent before it
     further_fit : (incumbent θ : Settings) (m : ℕ) (b : Bool) → allowed θ → 1 ≤ m → m ≤ n
-        → IsPlaceFit allowed n (after_raise (one_of b incumbent θ) m) (if b then Further θ m else Compared true)
+        → IsPhaseFit allowed n (after_raise (one_of b incumbent θ) m) (if b then Further θ m else Compared true)
     further_fit incumbent θ m true s some few = (later, s, some, few)
     further_fit incumbent θ m false s some few = later
 
-  abbrev FitAfter : Tally → Place → Question → Type 0
-  FitAfter t place q = (r : Reply) → Fits (ask_of q.config q.places q.bound) r → IsPlaceFit allowed n (tally_after t place r) (place_after n t place r)
+  abbrev FitAfter : Tally → Phase → Question → Type 0
+  FitAfter t phase q = (r : Reply) → Fits (ask_of q.config q.places q.bound) r → IsPhaseFit allowed n (tally_after t phase r) (phase_after n t phase r)
 
   still_later : (last : Incumbent) (q : Question) (r : Reply) → 1 ≤ last.compared → 1 ≤ (last_after last q r).compared
   still_later last q r h = subst (λ m. 1 ≤ m) (sym (last-compared last q r)) h
 
-  place_fit : (t : Tally) (place : Place) → HasMostRuns t → t.last.runs ≤ n → IsPlaceFit allowed n t place → IfSome (question_in (stage_at t.last place)) (FitAfter t place)
-  place_fit t Opened m few f = tt
-  place_fit t (High turn) m few f = high
+  phase_fit : (t : Tally) (phase : Phase) → HasMostRuns t → t.last.runs ≤ n → IsPhaseFit allowed n t phase → IfSome (question_in (stage_at t.last phase)) (FitAfter t phase)
+  phase_fit t Opened m few f = tt
+  phase_fit t (High turn) m few f = high
     where
       q : Question
       q = question_at t.last (High turn)
@@ -119,7 +119,7 @@ module _ (allowed : Settings → Type 0) (n : ℕ) where
           let o : Bool = is_overtaken t.last turn.high turn.places in
           high_fit (last_after t.last q (Exact x)) (still_later t.last q (Exact x) f.0) (if o then t.bonus else t.bonus) t.counts turn t.last.config x.0 o f.1
       high Exceeds fits = absurd fits
-  place_fit t (Low turn bound) m few f = low
+  phase_fit t (Low turn bound) m few f = low
     where
       q : Question
       q = question_at t.last (Low turn bound)
@@ -130,7 +130,7 @@ module _ (allowed : Settings → Type 0) (n : ℕ) where
       low : FitAfter t (Low turn bound) (question_at t.last (Low turn bound))
       low r fits = turn_fit (last_after t.last q r) (still_later t.last q r f.0) t.bonus t.counts turn t.bonus
           (low_dominates (raised t.counts turn.low turn.places) turn.high turn.places r) (high_dominates bound r) f.1 f.2 within
-  place_fit t (Further θ i) m few f = further
+  phase_fit t (Further θ i) m few f = further
     where
       q : Question
       q = question_at t.last (Further θ i)
@@ -140,18 +140,18 @@ module _ (allowed : Settings → Type 0) (n : ℕ) where
           let o : Bool = is_overtaken t.last θ i in
           further_fit (last_after t.last q (Exact x)) (still_later t.last q (Exact x) f.0) (if o then t.bonus else 0) t.counts t.last.config θ i o f.1 f.2 f.3
       further Exceeds fits = absurd fits
-  place_fit t (Compared won) m few f = tt
+  phase_fit t (Compared won) m few f = tt
 
   -- ---- the runs
 
-  abbrev MostAfter : Tally → Place → Question → Type 0
-  MostAfter t place q = (r : Reply) → Fits (ask_of q.config q.places q.bound) r → HasMostRuns (tally_after t place r)
+  abbrev MostAfter : Tally → Phase → Question → Type 0
+  MostAfter t phase q = (r : Reply) → Fits (ask_of q.config q.places q.bound) r → HasMostRuns (tally_after t phase r)
 
   most_in_full : (t : Tally) (θ : Settings) (m bonus x : ℕ) → HasMostRuns t
       → HasMostRuns (record { counts = raised t.counts (in_full t.last θ m).config m; last = last_after t.last (in_full t.last θ m) (exactly x); bonus = bonus })
   most_in_full t θ m bonus x f = most-after t f (in_full t.last θ m).config m bonus x (not_overtaken-due t.last θ m (is_overtaken t.last θ m) refl)
 
-  tally_fit : (t : Tally) (place : Place) → HasMostRuns t → IsPlaceFit allowed n t place → IfSome (question_in (stage_at t.last place)) (MostAfter t place)
+  tally_fit : (t : Tally) (phase : Phase) → HasMostRuns t → IsPhaseFit allowed n t phase → IfSome (question_in (stage_at t.last phase)) (MostAfter t phase)
   tally_fit t Opened f p = tt
   tally_fit t (High turn) f p = high
     where
@@ -175,7 +175,7 @@ module _ (allowed : Settings → Type 0) (n : ℕ) where
 
   -- ---- what is asked
 
-  asked_in_range : (t : Tally) (place : Place) → allowed t.last.config → IsPlaceFit allowed n t place → IfSome (question_in (stage_at t.last place)) (InRange n allowed)
+  asked_in_range : (t : Tally) (phase : Phase) → allowed t.last.config → IsPhaseFit allowed n t phase → IfSome (question_in (stage_at t.last phase)) (InRange n allowed)
   asked_in_range t Opened s f = tt
   asked_in_range t (High turn) s f = record { config = one_allowed (is_overtaken t.last turn.high turn.places) t.last.config turn.high s f.1.high; some = f.1.some; within = f.1.within }
   asked_in_range t (Low turn bound) s f = record { config = f.1.low; some = f.1.some; within = f.1.within }
@@ -210,8 +210,8 @@ module _ (allowed : Settings → Type 0) (n : ℕ) where
 -- ---- the answers come to an end
 
 module _ (n : ℕ) where
-  abbrev NearerAfter : Tally → Place → Question → Type 0
-  NearerAfter t place q = (r : Reply) → Fits (ask_of q.config q.places q.bound) r → left_at (tally_after t place r).last (place_after n t place r) < left_at t.last place
+  abbrev NearerAfter : Tally → Phase → Question → Type 0
+  NearerAfter t phase q = (r : Reply) → Fits (ask_of q.config q.places q.bound) r → left_at (tally_after t phase r).last (phase_after n t phase r) < left_at t.last phase
 
   few_where : (b : Bool) → one_where b ≤ 1
   few_where true = omega arith
@@ -231,19 +231,19 @@ module _ (n : ℕ) where
       rw (last-extended last m x None h, not_overtaken (record last { runs = m; sum = x }) θ m (omega arith)) (omega arith)
   further_nearer last θ m x false o = omega arith
 
-  turn_nearer : (last : Incumbent) (counts : Counts) (bonus : ℕ) (turn : Turn) (low high : Bool) → left_at last (place_after_turn n counts bonus turn low high) < 3 * turn.more + 3
+  turn_nearer : (last : Incumbent) (counts : Counts) (bonus : ℕ) (turn : Turn) (low high : Bool) → left_at last (phase_after_turn n counts bonus turn low high) < 3 * turn.more + 3
   turn_nearer last counts bonus turn low high = at_either (low || high) turn.more
     where
-      at_end : (won : Bool) → left_at last (place_by won n counts bonus (first_in turn)) < 3
+      at_end : (won : Bool) → left_at last (phase_by won n counts bonus (first_in turn)) < 3
       at_end true = let w : one_where (is_overtaken last (first_in turn) (min (count_in counts (first_in turn) + bonus) n)) ≤ 1 = few_where _ in omega (arith, w)
       at_end false = omega arith
 
-      at_either : (over : Bool) (more : ℕ) → left_at last (if over then place_by (first_dominates turn low high) n counts bonus (first_in turn) else next_turn n turn more) < 3 * more + 3
-      at_either true more = let h : left_at last (place_by (first_dominates turn low high) n counts bonus (first_in turn)) < 3 = at_end (first_dominates turn low high) in omega (arith, h)
+      at_either : (over : Bool) (more : ℕ) → left_at last (if over then phase_by (first_dominates turn low high) n counts bonus (first_in turn) else next_turn n turn more) < 3 * more + 3
+      at_either true more = let h : left_at last (phase_by (first_dominates turn low high) n counts bonus (first_in turn)) < 3 = at_end (first_dominates turn low high) in omega (arith, h)
       at_either false zero = omega arith
       at_either false (suc more) = let w : one_where (is_overtaken last turn.high (min (turn.places + 1) n)) ≤ 1 = few_where _ in omega (arith, w)
 
-  nearer : (t : Tally) (place : Place) → IfSome (question_in (stage_at t.last place)) (NearerAfter t place)
+  nearer : (t : Tally) (phase : Phase) → IfSome (question_in (stage_at t.last phase)) (NearerAfter t phase)
   nearer t Opened = tt
   nearer t (High turn) = high
     where
@@ -262,14 +262,14 @@ module _ (n : ℕ) where
 -- ---- the stages
 
 module _ (allowed : Settings → Type 0) (n : ℕ) (t : Tally) where
-  ready_fit : (place : Place) → IsPlaceFit allowed n t place → stage_at t.last place ≡ Ready → t.last.compared ≡ 0
+  ready_fit : (phase : Phase) → IsPhaseFit allowed n t phase → stage_at t.last phase ≡ Ready → t.last.compared ≡ 0
   ready_fit Opened f e = f
   ready_fit (High turn) f e = absurd (cc)
   ready_fit (Low turn bound) f e = absurd (cc)
   ready_fit (Further θ m) f e = absurd (cc)
   ready_fit (Compared won) f e = absurd (cc)
 
-  decided_fit : (place : Place) (b : Bool) → IsPlaceFit allowed n t place → stage_at t.last place ≡ Decided b → 1 ≤ t.last.compared
+  decided_fit : (phase : Phase) (b : Bool) → IsPhaseFit allowed n t phase → stage_at t.last phase ≡ Decided b → 1 ≤ t.last.compared
   decided_fit Opened b f e = absurd (cc)
   decided_fit (High turn) b f e = f.0
   decided_fit (Low turn bound) b f e = f.0
@@ -282,29 +282,29 @@ module _ (n : ℕ) (allowed : Settings → Type 0) where
   fit_after : (c : State) (q : Question) (r : Reply) → IsFit n allowed c → focused_parts.stage c ≡ Asking q
       → Fits (ask_of q.config q.places q.bound) r → IsFit n allowed (focused_parts.after c r)
   fit_after c q r f e fits =
-      let range : InRange n allowed q = at_question (focused_parts.stage c) (InRange n allowed) (asked_in_range allowed n c.tally c.place f.trajectory.config f.place) q e in
-      let same : q ≡ question_at c.tally.last c.place = at_question (focused_parts.stage c) (λ q. q ≡ question_at c.tally.last c.place) (question_so c.tally.last c.place) q e in
-      let there : InRange n allowed (question_at c.tally.last c.place) = subst (λ q. InRange n allowed q) same range in
+      let range : InRange n allowed q = at_question (focused_parts.stage c) (InRange n allowed) (asked_in_range allowed n c.tally c.phase f.trajectory.config f.phase) q e in
+      let same : q ≡ question_at c.tally.last c.phase = at_question (focused_parts.stage c) (λ q. q ≡ question_at c.tally.last c.phase) (question_so c.tally.last c.phase) q e in
+      let there : InRange n allowed (question_at c.tally.last c.phase) = subst (λ q. InRange n allowed q) same range in
       record {
         runs = f.runs;
         some = f.some;
-        tally = at_question (focused_parts.stage c) (MostAfter allowed n c.tally c.place) (tally_fit allowed n c.tally c.place f.tally f.place) q e r fits;
-        place = rw f.runs (at_question (focused_parts.stage c) (FitAfter allowed n c.tally c.place) (place_fit allowed n c.tally c.place f.tally f.trajectory.runs f.place) q e r fits);
-        trajectory = trajectory-after n allowed c.tally.last c.entries (question_at c.tally.last c.place) r there.config there.within f.earlier f.trajectory;
-        entered = entered-after n allowed c.tally.last c.entries (question_at c.tally.last c.place) r f.entered;
-        earlier = earlier-after n allowed c.tally.last c.entries (question_at c.tally.last c.place) r f.earlier;
+        tally = at_question (focused_parts.stage c) (MostAfter allowed n c.tally c.phase) (tally_fit allowed n c.tally c.phase f.tally f.phase) q e r fits;
+        phase = rw f.runs (at_question (focused_parts.stage c) (FitAfter allowed n c.tally c.phase) (phase_fit allowed n c.tally c.phase f.tally f.trajectory.runs f.phase) q e r fits);
+        trajectory = trajectory-after n allowed c.tally.last c.entries (question_at c.tally.last c.phase) r there.config there.within f.earlier f.trajectory;
+        entered = entered-after n allowed c.tally.last c.entries (question_at c.tally.last c.phase) r f.entered;
+        earlier = earlier-after n allowed c.tally.last c.entries (question_at c.tally.last c.phase) r f.earlier;
       }
 
   answered : (c : State) (q : Question) (r : Reply) → IsFit n allowed c → focused_parts.stage c ≡ Asking q
       → Fits (ask_of q.config q.places q.bound) r → Answered focused_parts (IsFit n allowed) c q r
   answered c q r f e fits =
-      let same : q ≡ question_at c.tally.last c.place = at_question (focused_parts.stage c) (λ q. q ≡ question_at c.tally.last c.place) (question_so c.tally.last c.place) q e in
+      let same : q ≡ question_at c.tally.last c.phase = at_question (focused_parts.stage c) (λ q. q ≡ question_at c.tally.last c.phase) (question_so c.tally.last c.phase) q e in
       record {
         stays_fit = fit_after c q r f e fits;
-        nearer = at_question (focused_parts.stage c) (NearerAfter c.max_runs c.tally c.place) (nearer c.max_runs c.tally c.place) q e r fits;
+        nearer = at_question (focused_parts.stage c) (NearerAfter c.max_runs c.tally c.phase) (nearer c.max_runs c.tally c.phase) q e r fits;
         grown = refl;
-        compared = last-compared c.tally.last (question_at c.tally.last c.place) r;
-        incumbent = rw same (last-earned c.tally.last (question_at c.tally.last c.place) r);
+        compared = last-compared c.tally.last (question_at c.tally.last c.phase) r;
+        incumbent = rw same (last-earned c.tally.last (question_at c.tally.last c.phase) r);
       }
 
   begins : (c : State) (θ φ : Settings) (m : ℕ) → IsFit n allowed c → c.tally.last.compared < m → allowed θ → allowed φ
@@ -314,7 +314,7 @@ module _ (n : ℕ) (allowed : Settings → Type 0) where
       runs = f.runs;
       some = f.some;
       tally = record { most = f.tally.most; top = f.tally.top };
-      place = (omega (arith, later), rw f.runs (first_turn_fit allowed n c.tally f.tally f.trajectory.runs f.some θ φ s u (nat_le (count_in c.tally.counts θ) (count_in c.tally.counts φ))));
+      phase = (omega (arith, later), rw f.runs (first_turn_fit allowed n c.tally f.tally f.trajectory.runs f.some θ φ s u (nat_le (count_in c.tally.counts θ) (count_in c.tally.counts φ))));
       trajectory = trajectory-begin n allowed c.entries c.tally.last m f.trajectory (omega (arith, later));
       entered = f.entered;
       earlier = f.earlier;
@@ -334,18 +334,18 @@ focused_steady n allowed start some s = record {
     runs = refl;
     some = some;
     tally = record { most = λ φ. let z = count-none φ in omega (arith, z); top = count-none start };
-    place = refl;
+    phase = refl;
     trajectory = trajectory-push n allowed [] (first_incumbent start) (first_incumbent start) (trajectory-none n allowed (first_incumbent start) s (omega arith)) (omega arith) s (omega arith);
     entered = refl;
     earlier = omega arith;
   };
   few = omega arith;
   nothing_yet = refl;
-  in_range = λ c q f e. at_question (focused_parts.stage c) (InRange n allowed) (asked_in_range allowed n c.tally c.place f.trajectory.config f.place) q e;
+  in_range = λ c q f e. at_question (focused_parts.stage c) (InRange n allowed) (asked_in_range allowed n c.tally c.phase f.trajectory.config f.phase) q e;
   trajectory = λ c f. f.trajectory;
   entered = λ c f none. f.entered;
-  ready_first = λ c f e. ready_fit allowed n c.tally c.place f.place e;
-  decided_later = λ c b f e. decided_fit allowed n c.tally c.place b f.place e;
+  ready_first = λ c f e. ready_fit allowed n c.tally c.phase f.phase e;
+  decided_later = λ c b f e. decided_fit allowed n c.tally c.phase b f.phase e;
   answered = λ c q r f e fits. answered n allowed c q r f e fits;
   begins = λ c θ φ m f none later s u. begins n allowed c θ φ m f later s u;
 }

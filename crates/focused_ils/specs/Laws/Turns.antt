@@ -5,7 +5,7 @@ use Rattle.uncapped.specs.Procedure.{Settings, Sums, PlainState, goes_on}
 use Rattle.uncapped.specs.Setup.{Setup}
 use Rattle.uncapped.specs.Evaluation.{is_at_most, dominates, catch_up, better_focused}
 use Rattle.focused_ils.specs.Counts.{Counts, count_in}
-use Rattle.focused_ils.specs.State.{Turn, High, place_after_turn, first_turn, started_at, decision_after, turns_after, coming_at}
+use Rattle.focused_ils.specs.State.{Turn, High, phase_after_turn, first_turn, started_at, decision_after, turns_after, coming_at}
 
 -- ---- a turn's end
 
@@ -17,7 +17,7 @@ module _ (setup : Setup) (sums : Sums) (n : ℕ) (m : setup.max_runs ≡ n) (cou
   -- by who dominates, the turns end or go on
   over : (first_is_low a d : Bool) (more : ℕ) → dominates sums s low high ≡ a → dominates sums s high low ≡ d
       → goes_on (turns_after setup sums (its_turn first_is_low more) s) (λ u. decision_after setup sums (its_turn first_is_low more))
-      ≡ coming_at setup sums (place_after_turn n counts bonus (its_turn first_is_low more) a d) s
+      ≡ coming_at setup sums (phase_after_turn n counts bonus (its_turn first_is_low more) a d) s
   unfolding catch_up
   over true true d more e f = rw (e, e, same low, b, ← m) refl
   over true false true more e f = rw (e, f, e) refl
@@ -48,7 +48,7 @@ module _ (setup : Setup) (sums : Sums) (n : ℕ) (m : setup.max_runs ≡ n) (cou
 
     pub turn-ends : (first_is_low : Bool) (more : ℕ)
         → goes_on (turns_after setup sums (its_turn first_is_low more) s) (λ u. decision_after setup sums (its_turn first_is_low more))
-        ≡ coming_at setup sums (place_after_turn n counts bonus (its_turn first_is_low more) (nat_le (count_in counts high) i && nat_le y x) (nat_le x y)) s
+        ≡ coming_at setup sums (phase_after_turn n counts bonus (its_turn first_is_low more) (nat_le (count_in counts high) i && nat_le y x) (nat_le x y)) s
     turn-ends first_is_low more = over first_is_low (nat_le (count_in counts high) i && nat_le y x) (nat_le x y) more low_dominates_so high_dominates_so
 
 -- ---- the begin of a comparison

@@ -1,4 +1,4 @@
-//! What a configuration is evaluated by.
+//! An ask that is never the end.
 ghost use Rattle.std.specs.Prelude.{◌≡◌, Some, None, IfOk};
 ghost use Rattle.ils_face.specs.Replies.{ask_of};
 
@@ -10,11 +10,11 @@ use std::marker::Model;
 /// An ask that is never the end, so that its configuration is at hand. Contracts see it as a
 /// question.
 #[derive(Drop)]
-pub(crate) struct Evaluation {
+pub(crate) struct OpenAsk {
     ask: Ask,
 }
 
-impl Model for Evaluation {
+impl Model for OpenAsk {
     ghost use Rattle.std.specs.Prelude.{IsTrue};
     ghost use Rattle.uncapped.specs.Procedure.{Question};
     ghost use Rattle.focused_ils.specs.Questions.{is_question, question_seen};
@@ -26,12 +26,12 @@ impl Model for Evaluation {
     ghost invariant = { λ e. IsTrue (is_question e.ask) };
 }
 
-impl Evaluation {
+impl OpenAsk {
     /// In full on so many places.
-    pub fn new(config: Config, n: u32) -> Evaluation
+    pub fn new(config: Config, n: u32) -> OpenAsk
         ensures { result ≡ record { config = config; places = n; bound = None } }
     {
-        Evaluation {
+        OpenAsk {
             ask: Ask::Full { config, n },
         }
     }
@@ -93,11 +93,11 @@ impl Evaluation {
         };
     }
 
-    /// The same evaluation.
-    pub fn copy(&self) -> Result<Evaluation, Memory>
+    /// The same ask.
+    pub fn copy(&self) -> Result<OpenAsk, Memory>
         ensures { IfOk result (λ e. e ≡ self.now) }
     {
-        Ok(Evaluation {
+        Ok(OpenAsk {
             ask: self.ask.copy()?,
         })
     }

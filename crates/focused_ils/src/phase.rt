@@ -4,7 +4,7 @@ use objective::Sum;
 
 /// How far a comparison is; its configurations stand beside it.
 #[derive(Clone, Copy)]
-pub(crate) enum Step {
+pub(crate) enum Phase {
     /// Nothing was compared yet.
     Opened,
     /// The one with more runs is asked for.
