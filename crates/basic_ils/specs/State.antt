@@ -12,22 +12,22 @@ use Rattle.ils_face.specs.declared.asks.Reply.TheVariants.{Exact, Exceeds}
 use Rattle.ils_frame.specs.Comparers.{AskedStage, Ready, Asking, Decided, Parts, AreCostsKnown}
 
 -- how far a comparison is
-pub data Place : Type 0 where
-  Opening : Place  -- the default configuration is to be evaluated
-  Opened : Place  -- nothing was compared yet
-  Second : (first second : Settings) → Place  -- the second one is to be evaluated
-  First : (first : Settings) → (bound : ℕ) → Place  -- then the first one, up to the second one's cost
-  Compared : Bool → Place  -- whether the first one won
+pub data Phase : Type 0 where
+  Opening : Phase  -- the default configuration is to be evaluated
+  Opened : Phase  -- nothing was compared yet
+  Second : (first second : Settings) → Phase  -- the second one is to be evaluated
+  First : (first : Settings) → (bound : ℕ) → Phase  -- then the first one, up to the second one's cost
+  Compared : Bool → Phase  -- whether the first one won
 
 -- how far BasicILS is, with the incumbents so far
 pub record State : Type 0 where
   pub max_runs : ℕ  -- the places of each evaluation
   pub last : Incumbent
-  pub place : Place
+  pub phase : Phase
   pub entries : List Incumbent  -- oldest first
 
 -- the evaluation that is asked for
-abbrev pub stage_at : ℕ → Settings → Place → AskedStage
+abbrev pub stage_at : ℕ → Settings → Phase → AskedStage
 stage_at n incumbent Opening = Asking (record { config = incumbent; places = n; bound = None })
 stage_at n incumbent Opened = Ready
 stage_at n incumbent (Second first second) = Asking (record { config = second; places = n; bound = None })
@@ -35,17 +35,17 @@ stage_at n incumbent (First first bound) = Asking (record { config = first; plac
 stage_at n incumbent (Compared won) = Decided won
 
 -- a tie is won; nothing but a cost up to the bound is replied in full
-abbrev pub place_after : Place → Reply → Place
-place_after Opening r = Opened
-place_after Opened r = Opened
-place_after (Second first second) (Exact x) = First first x.0
-place_after (Second first second) Exceeds = Compared false
-place_after (First first bound) (Exact x) = Compared true
-place_after (First first bound) Exceeds = Compared false
-place_after (Compared won) r = Compared won
+abbrev pub phase_after : Phase → Reply → Phase
+phase_after Opening r = Opened
+phase_after Opened r = Opened
+phase_after (Second first second) (Exact x) = First first x.0
+phase_after (Second first second) Exceeds = Compared false
+phase_after (First first bound) (Exact x) = Compared true
+phase_after (First first bound) Exceeds = Compared false
+phase_after (Compared won) r = Compared won
 
 -- the configuration that is evaluated, or else the incumbent
-abbrev pub evaluated_config : Settings → Place → Settings
+abbrev pub evaluated_config : Settings → Phase → Settings
 evaluated_config incumbent Opening = incumbent
 evaluated_config incumbent Opened = incumbent
 evaluated_config incumbent (Second first second) = second
@@ -57,9 +57,9 @@ abbrev pub is_better : Incumbent → Settings → ℕ → Bool
 is_better last θ x = not (bytes_eq θ last.config) && nat_lt x last.sum
 
 -- a cost makes a new incumbent: the default's, and then any that is lower
-abbrev pub is_renewed : Incumbent → Place → ℕ → Bool
+abbrev pub is_renewed : Incumbent → Phase → ℕ → Bool
 is_renewed last Opening x = true
-is_renewed last place x = is_better last (evaluated_config last.config place) x
+is_renewed last phase x = is_better last (evaluated_config last.config phase) x
 
 -- a configuration as incumbent, from the present comparison on
 abbrev pub entry : ℕ → Incumbent → Settings → ℕ → Incumbent
@@ -71,9 +71,9 @@ entry_where true e = e ∷ []
 entry_where false e = []
 
 -- the entries that a reply adds
-abbrev pub added_at : ℕ → Incumbent → Place → Reply → List Incumbent
-added_at n last place (Exact x) = entry_where (is_renewed last place x.0) (entry n last (evaluated_config last.config place) x.0)
-added_at n last place Exceeds = []
+abbrev pub added_at : ℕ → Incumbent → Phase → Reply → List Incumbent
+added_at n last phase (Exact x) = entry_where (is_renewed last phase x.0) (entry n last (evaluated_config last.config phase) x.0)
+added_at n last phase Exceeds = []
 
 -- the incumbent, after these entries
 abbrev pub last_after : Incumbent → List Incumbent → Incumbent
@@ -102,7 +102,7 @@ after_opening n start (Exact x) s = after_entry start n x.0 s
 after_opening n start Exceeds s = s
 
 -- after a reply
-abbrev pub replied_at : ℕ → Incumbent → Place → Reply → PlainState → PlainState
+abbrev pub replied_at : ℕ → Incumbent → Phase → Reply → PlainState → PlainState
 replied_at n last Opening r s = after_opening n last.config r (after_evaluation last.config n None s)
 replied_at n last Opened r s = s
 replied_at n last (Second first second) r s = after_reply n last second r (after_evaluation second n None s)
@@ -110,7 +110,7 @@ replied_at n last (First first bound) r s = after_reply n last first r (after_ev
 replied_at n last (Compared won) r s = s
 
 -- what is to come of the opening evaluation or of a comparison
-abbrev pub coming_at : Setup → Sums → Place → Procedure Bool
+abbrev pub coming_at : Setup → Sums → Phase → Procedure Bool
 coming_at setup sums Opening = opening_basic setup sums >>= λ _. give false
 coming_at setup sums Opened = give false
 coming_at setup sums (Second first second) = better_basic setup sums first second
@@ -119,25 +119,33 @@ coming_at setup sums (Compared won) = give won
 
 -- the same of a state
 abbrev pub coming_in : Setup → Sums → State → Procedure Bool
-coming_in setup sums c = coming_at setup sums c.place
+coming_in setup sums c = coming_at setup sums c.phase
 
 -- ---- the comparer
 
 -- the evaluations that are left
-abbrev pub left_at : Place → ℕ
+abbrev pub left_at : Phase → ℕ
 left_at Opening = 1
 left_at Opened = 0
 left_at (Second first second) = 2
 left_at (First first bound) = 1
 left_at (Compared won) = 0
 
+-- the entry of what is evaluated, with this cost
+abbrev pub evaluated_entry : State → ℕ → Incumbent
+evaluated_entry c x = entry c.max_runs c.last (evaluated_config c.last.config c.phase) x
+
+-- what is evaluated is the incumbent, with its entry
+abbrev pub state_renewed : State → ℕ → State
+state_renewed c x = record c { last = evaluated_entry c x; entries = c.entries ++ evaluated_entry c x ∷ [] }
+
 -- after a reply
 abbrev pub state_after : State → Reply → State
 state_after c r = record {
   max_runs = c.max_runs;
-  last = last_after c.last (added_at c.max_runs c.last c.place r);
-  place = place_after c.place r;
-  entries = c.entries ++ added_at c.max_runs c.last c.place r;
+  last = last_after c.last (added_at c.max_runs c.last c.phase r);
+  phase = phase_after c.phase r;
+  entries = c.entries ++ added_at c.max_runs c.last c.phase r;
 }
 
 -- a comparison of this number begins
@@ -145,21 +153,21 @@ abbrev pub state_at_begin : State → Settings → Settings → ℕ → State
 state_at_begin c θ φ m = record {
   max_runs = c.max_runs;
   last = record c.last { compared = m };
-  place = Second θ φ;
+  phase = Second θ φ;
   entries = c.entries;
 }
 
 -- how BasicILS goes on, and what it shows
 abbrev pub basic_parts : Parts State
 basic_parts = record {
-  stage = λ c. stage_at c.max_runs c.last.config c.place;
+  stage = λ c. stage_at c.max_runs c.last.config c.phase;
   last = λ c. c.last;
   entries = λ c. c.entries;
   after = state_after;
   begun = state_at_begin;
-  added = λ c r. added_at c.max_runs c.last c.place r;
-  left = λ c. left_at c.place;
-  replied = λ c r s. replied_at c.max_runs c.last c.place r s;
+  added = λ c r. added_at c.max_runs c.last c.phase r;
+  left = λ c. left_at c.phase;
+  replied = λ c r s. replied_at c.max_runs c.last c.phase r s;
   started = λ c θ φ m s. record s { compared = m };
 }
 
@@ -168,32 +176,32 @@ abbrev pub first_state : Rules → State
 first_state rules = record {
   max_runs = rules.max_runs;
   last = record { compared = 0; runs = 0; sum = 0; config = defaults rules.space.params };
-  place = Opening;
+  phase = Opening;
   entries = [];
 }
 
 -- ---- what holds of it
 
 -- a comparison has a number from 1, and its configurations are allowed
-abbrev pub IsPlaceFit : (Settings → Type 0) → ℕ → Place → Type 0
-IsPlaceFit allowed compared Opening = compared ≡ 0
-IsPlaceFit allowed compared Opened = compared ≡ 0
-IsPlaceFit allowed compared (Second first second) = (1 ≤ compared) × allowed first × allowed second
-IsPlaceFit allowed compared (First first bound) = (1 ≤ compared) × allowed first
-IsPlaceFit allowed compared (Compared won) = 1 ≤ compared
+abbrev pub IsPhaseFit : (Settings → Type 0) → ℕ → Phase → Type 0
+IsPhaseFit allowed compared Opening = compared ≡ 0
+IsPhaseFit allowed compared Opened = compared ≡ 0
+IsPhaseFit allowed compared (Second first second) = (1 ≤ compared) × allowed first × allowed second
+IsPhaseFit allowed compared (First first bound) = (1 ≤ compared) × allowed first
+IsPhaseFit allowed compared (Compared won) = 1 ≤ compared
 
 -- once the default was evaluated there is an entry
-abbrev pub IsEntered : Place → List Incumbent → Type 0
+abbrev pub IsEntered : Phase → List Incumbent → Type 0
 IsEntered Opening entries = Unit {0}
-IsEntered place entries = IsSome (newest entries)
+IsEntered phase entries = IsSome (newest entries)
 
 -- it was reached by fitting replies
 pub record IsFit (max_runs : ℕ) (allowed : Settings → Type 0) (c : State) : Type 0 where
   pub runs : c.max_runs ≡ max_runs
   pub some : 1 ≤ max_runs
-  pub place : IsPlaceFit allowed c.last.compared c.place
+  pub phase : IsPhaseFit allowed c.last.compared c.phase
   pub trajectory : IsTrajectory max_runs allowed c.entries c.last
-  pub entered : IsEntered c.place c.entries
+  pub entered : IsEntered c.phase c.entries
 
 -- nothing was evaluated yet
 pub record IsFresh (start : Settings) (last : Incumbent) (s : PlainState) : Type 0 where
@@ -210,7 +218,7 @@ pub record IsKnown (n : ℕ) (sums : Sums) (last : Incumbent) (s : PlainState) :
   pub sum : sums s.incumbent n ≡ Some last.sum
 
 -- a bound hides no configuration that is better than the incumbent
-abbrev pub StandsAt : ℕ → Settings → Sums → Incumbent → Place → PlainState → Type 0
+abbrev pub StandsAt : ℕ → Settings → Sums → Incumbent → Phase → PlainState → Type 0
 StandsAt n start sums last Opening s = IsFresh start last s
 StandsAt n start sums last Opened s = IsKnown n sums last s
 StandsAt n start sums last (Second first second) s = IsKnown n sums last s
@@ -222,4 +230,4 @@ pub record Stands (start : Settings) (sums : Sums) (c : State) (s : PlainState) 
   pub incumbent : s.incumbent ≡ c.last.config
   pub compared : s.compared ≡ c.last.compared
   pub known : AreCostsKnown sums s
-  pub place : StandsAt c.max_runs start sums c.last c.place s
+  pub phase : StandsAt c.max_runs start sums c.last c.phase s

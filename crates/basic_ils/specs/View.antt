@@ -5,9 +5,9 @@ use Rattle.ils_face.specs.Replies.{ask_for}
 use Rattle.ils_face.specs.declared.asks.Ask.{Ask}
 use Rattle.ils_face.specs.declared.asks.Ask.TheVariants as ask
 use Rattle.ils_frame.specs.Comparers.{question_in}
-use Rattle.basic_ils.specs.declared.place.Place as place
-use Rattle.basic_ils.specs.declared.place.Place.TheVariants as held
-use Rattle.basic_ils.specs.State.{Place, Opening, Opened, Second, First, Compared, stage_at}
+use Rattle.basic_ils.specs.declared.phase.Phase as phase
+use Rattle.basic_ils.specs.declared.phase.Phase.TheVariants as held
+use Rattle.basic_ils.specs.State.{Phase, Opening, Opened, Second, First, Compared, stage_at}
 
 -- the configuration that is asked for
 abbrev pub config_in : Ask → Settings
@@ -21,14 +21,14 @@ bound_in (ask.Full config n) = 0
 bound_in (ask.Versus config n bound) = bound.0
 bound_in ask.End = 0
 
--- the place with the configuration that is asked for
-abbrev pub place_seen : Ask → place.Place → Place
-place_seen asked held.Opening = Opening
-place_seen asked held.Opened = Opened
-place_seen asked (held.Second first) = Second first (config_in asked)
-place_seen asked held.First = First (config_in asked) (bound_in asked)
-place_seen asked (held.Compared won) = Compared won
+-- the phase with the configuration that is asked for
+abbrev pub phase_seen : Ask → phase.Phase → Phase
+phase_seen asked held.Opening = Opening
+phase_seen asked held.Opened = Opened
+phase_seen asked (held.Second first) = Second first (config_in asked)
+phase_seen asked held.First = First (config_in asked) (bound_in asked)
+phase_seen asked (held.Compared won) = Compared won
 
--- the open ask is the one that the place wants
-abbrev pub IsAskOf : ℕ → Settings → Ask → Place → Type 0
-IsAskOf n incumbent asked place = asked ≡ ask_for (question_in (stage_at n incumbent place))
+-- the open ask is the one that the phase wants
+abbrev pub IsAskOf : ℕ → Settings → Ask → Phase → Type 0
+IsAskOf n incumbent asked phase = asked ≡ ask_for (question_in (stage_at n incumbent phase))

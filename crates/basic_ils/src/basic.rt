@@ -1,8 +1,8 @@
 //! The comparer of BasicILS.
-ghost use Rattle.std.specs.Prelude.{◌≡◌, ◌++◌, ◌∷◌, [], IfOk, OnOk, OnErr, bytes_eq};
-ghost use Rattle.basic_ils.specs.State.{evaluated_config, is_renewed, entry, place_after};
+ghost use Rattle.std.specs.Prelude.{◌≡◌, IfOk, OnOk, OnErr, bytes_eq};
+ghost use Rattle.basic_ils.specs.State.{evaluated_config, is_renewed, state_renewed, phase_after};
 
-use crate::place::Place;
+use crate::phase::Phase;
 use ils_face::{Ask, Entry, Reply, Rules};
 use ils_frame::{Comparer, Entries, Stage};
 use objective::{Memory, Sum};
@@ -23,20 +23,25 @@ pub struct Basic {
     sum: Sum,
     /// The open ask, or the end where nothing is asked.
     asked: Ask,
-    place: Place,
+    phase: Phase,
     /// The incumbents so far, oldest first.
     entries: Entries,
 }
 
 impl Model for Basic {
     ghost use Rattle.basic_ils.specs.State.{State};
-    ghost use Rattle.basic_ils.specs.View.{place_seen, IsAskOf};
+    ghost use Rattle.basic_ils.specs.View.{phase_seen, IsAskOf};
 
     ghost Value = { State };
 
-    ghost view = { λ b. record { max_runs = b.max_runs; last = record { compared = b.compared; runs = b.runs; sum = b.sum.0; config = b.incumbent }; place = place_seen b.asked b.place; entries = b.entries } };
+    ghost view = { λ b. record {
+      max_runs = b.max_runs;
+      last = record { compared = b.compared; runs = b.runs; sum = b.sum.0; config = b.incumbent };
+      phase = phase_seen b.asked b.phase;
+      entries = b.entries;
+    } };
 
-    ghost invariant = { λ b. IsAskOf b.max_runs b.incumbent b.asked (place_seen b.asked b.place) };
+    ghost invariant = { λ b. IsAskOf b.max_runs b.incumbent b.asked (phase_seen b.asked b.phase) };
 }
 
 /// Whether two configurations have the same value numbers.
@@ -49,7 +54,7 @@ fn same_values(left: &[u16], right: &[u16]) -> bool
 impl Basic {
     /// The configuration that is evaluated, or else the incumbent.
     fn evaluated(&self) -> &Config
-        ensures { result.now ≡ evaluated_config self.now.last.config self.now.place }
+        ensures { result.now ≡ evaluated_config self.now.last.config self.now.phase }
     {
         match &self.asked {
             Ask::Full { config, .. } | Ask::Versus { config, .. } => config,
@@ -59,10 +64,10 @@ impl Basic {
 
     /// Whether this cost makes a new incumbent.
     fn is_renewed_by(&self, sum: Sum) -> bool
-        ensures { result ≡ is_renewed self.now.last self.now.place sum.0 }
+        ensures { result ≡ is_renewed self.now.last self.now.phase sum.0 }
     {
-        match &self.place {
-            Place::Opening => true,
+        match &self.phase {
+            Phase::Opening => true,
             _ => {
                 let same = same_values(self.evaluated().values(), self.incumbent.values());
                 !same && sum.0 < self.sum.0
@@ -73,7 +78,7 @@ impl Basic {
     /// What is evaluated becomes the incumbent, with its entry. Where there is no memory
     /// left, all is as it was.
     fn renew(&mut self, sum: Sum) -> Result<(), Memory>
-        ensures ok { OnOk result (self.new ≡ record self.old { last = entry self.old.max_runs self.old.last (evaluated_config self.old.last.config self.old.place) sum.0; entries = self.old.entries ++ entry self.old.max_runs self.old.last (evaluated_config self.old.last.config self.old.place) sum.0 ∷ [] }) }
+        ensures ok { OnOk result (self.new ≡ state_renewed self.old sum.0) }
         ensures err { OnErr result (self.new ≡ self.old) }
     {
         let incumbent = self.evaluated().copy()?;
@@ -90,44 +95,44 @@ impl Basic {
         Ok(())
     }
 
-    /// Goes to the next place. Takes no memory.
+    /// Goes to the next phase. Takes no memory.
     fn go_on(&mut self, reply: Reply)
-        ensures { self.new ≡ record self.old { place = place_after self.old.place reply } }
+        ensures { self.new ≡ record self.old { phase = phase_after self.old.phase reply } }
     {
-        let place = std::mem::replace(&mut self.place, Place::Opened);
-        let (asked, place) = match (place, reply) {
-            (Place::Opening | Place::Opened, _) => (Ask::End, Place::Opened),
-            (Place::Second { first }, Reply::Exact(bound)) => (
+        let phase = std::mem::replace(&mut self.phase, Phase::Opened);
+        let (asked, phase) = match (phase, reply) {
+            (Phase::Opening | Phase::Opened, _) => (Ask::End, Phase::Opened),
+            (Phase::Second { first }, Reply::Exact(bound)) => (
                 Ask::Versus {
                     config: first,
                     n: self.max_runs,
                     bound,
                 },
-                Place::First,
+                Phase::First,
             ),
-            (Place::First, Reply::Exact(_)) => (Ask::End, Place::Compared(true)),
-            (Place::Second { .. } | Place::First, Reply::Exceeds) => {
-                (Ask::End, Place::Compared(false))
+            (Phase::First, Reply::Exact(_)) => (Ask::End, Phase::Compared(true)),
+            (Phase::Second { .. } | Phase::First, Reply::Exceeds) => {
+                (Ask::End, Phase::Compared(false))
             }
-            (Place::Compared(won), _) => (Ask::End, Place::Compared(won)),
+            (Phase::Compared(won), _) => (Ask::End, Phase::Compared(won)),
         };
         self.asked = asked;
-        self.place = place;
+        self.phase = phase;
     }
 }
 
-/// The same place.
-fn copy_place(place: &Place) -> Result<Place, Memory>
-    ensures { IfOk result (λ p. p ≡ place.now) }
+/// The same phase.
+fn copy_phase(phase: &Phase) -> Result<Phase, Memory>
+    ensures { IfOk result (λ p. p ≡ phase.now) }
 {
-    match place {
-        Place::Opening => Ok(Place::Opening),
-        Place::Opened => Ok(Place::Opened),
-        Place::Second { first } => Ok(Place::Second {
+    match phase {
+        Phase::Opening => Ok(Phase::Opening),
+        Phase::Opened => Ok(Phase::Opened),
+        Phase::Second { first } => Ok(Phase::Second {
             first: first.copy()?,
         }),
-        Place::First => Ok(Place::First),
-        Place::Compared(won) => Ok(Place::Compared(*won)),
+        Phase::First => Ok(Phase::First),
+        Phase::Compared(won) => Ok(Phase::Compared(*won)),
     }
 }
 
@@ -167,16 +172,16 @@ impl Comparer for Basic {
                 n: rules.max_runs,
             },
             incumbent,
-            place: Place::Opening,
+            phase: Phase::Opening,
             entries: Entries::new(alloc)?,
         })
     }
 
     fn stage(&self) -> Stage {
-        match &self.place {
-            Place::Opened => Stage::Ready,
-            Place::Opening | Place::Second { .. } | Place::First => Stage::Asking,
-            Place::Compared(won) => Stage::Decided(*won),
+        match &self.phase {
+            Phase::Opened => Stage::Ready,
+            Phase::Opening | Phase::Second { .. } | Phase::First => Stage::Asking,
+            Phase::Compared(won) => Stage::Decided(*won),
         }
     }
 
@@ -185,12 +190,12 @@ impl Comparer for Basic {
     }
 
     fn decided_by(&self, reply: Reply) -> Option<bool> {
-        match (&self.place, reply) {
-            (Place::Opening | Place::Opened, _) => Some(false),
-            (Place::Second { .. }, Reply::Exact(_)) => None,
-            (Place::First, Reply::Exact(_)) => Some(true),
-            (Place::Second { .. } | Place::First, Reply::Exceeds) => Some(false),
-            (Place::Compared(won), _) => Some(*won),
+        match (&self.phase, reply) {
+            (Phase::Opening | Phase::Opened, _) => Some(false),
+            (Phase::Second { .. }, Reply::Exact(_)) => None,
+            (Phase::First, Reply::Exact(_)) => Some(true),
+            (Phase::Second { .. } | Phase::First, Reply::Exceeds) => Some(false),
+            (Phase::Compared(won), _) => Some(*won),
         }
     }
 
@@ -209,7 +214,7 @@ impl Comparer for Basic {
             config: second,
             n: self.max_runs,
         };
-        self.place = Place::Second { first };
+        self.phase = Phase::Second { first };
     }
 
     fn copy(&self) -> Result<Basic, Memory> {
@@ -220,7 +225,7 @@ impl Comparer for Basic {
             runs: self.runs,
             sum: self.sum,
             asked: self.asked.copy()?,
-            place: copy_place(&self.place)?,
+            phase: copy_phase(&self.phase)?,
             entries: self.entries.copy()?,
         })
     }

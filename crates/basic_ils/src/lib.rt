@@ -2,6 +2,6 @@
 #![tactic(auto)]
 
 mod basic;
-mod place;
+mod phase;
 
 pub use basic::Basic;

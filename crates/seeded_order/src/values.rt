@@ -17,8 +17,10 @@ pub fn drawn_config(
     params: &[Param],
 ) -> Result<Config, Memory>
     requires { params_fault params.now ≡ None }
-    ensures value { (seed stream k : ℕ) → generator.old ≡ generator_at seed stream k → IfOk result (λ c. c ≡ values_of seed stream k params.now) }
-    ensures after { (seed stream k : ℕ) → generator.old ≡ generator_at seed stream k → OnOk result (generator.new ≡ generator_at seed stream (k + length params.now)) }
+    ensures value { (seed stream k : ℕ) → generator.old ≡ generator_at seed stream k
+        → IfOk result (λ c. c ≡ values_of seed stream k params.now) }
+    ensures after { (seed stream k : ℕ) → generator.old ≡ generator_at seed stream k
+        → OnOk result (generator.new ≡ generator_at seed stream (k + length params.now)) }
 {
     let mut values = Vec::new(alloc);
     for param in params {

@@ -21,7 +21,7 @@ use Rattle.ils_face.specs.declared.asks.Reply.{Reply}
 use Rattle.ils_face.specs.declared.asks.Reply.TheVariants.{Exact, Exceeds}
 use Rattle.ils_frame.specs.Comparers.{question_in, decision_in, Advanced, GoesOn, AreCostsKnown, Keeps}
 use Rattle.ils_frame.proofs.CountedCosts.{counts_after-known}
-use Rattle.basic_ils.specs.State.{Place, Opening, Opened, Second, First, Compared, State, stage_at, is_better, entry, entry_where, last_after, after_evaluation, win_where, coming_at, coming_in, basic_parts, first_state, IsFit, IsFresh, IsKnown, Stands, StandsAt}
+use Rattle.basic_ils.specs.State.{Phase, Opening, Opened, Second, First, Compared, State, stage_at, is_better, entry, entry_where, last_after, after_evaluation, win_where, coming_at, coming_in, basic_parts, first_state, IsFit, IsFresh, IsKnown, Stands, StandsAt}
 use Rattle.basic_ils.specs.Laws.SteadyLaw.{at_question}
 use Rattle.basic_ils.specs.Laws.Evaluations.{counts_after-most, counts_after-top, counts_after-itself, evaluate-known, evaluate-unknown}
 
@@ -125,11 +125,11 @@ module _ (setup : Setup) (sums : Sums) (start : Settings) (b : setup.start ≡ s
 
   module _ (n : ℕ) (m : setup.max_runs ≡ n) (last : Incumbent) (entries : List Incumbent) (s : PlainState) (i : s.incumbent ≡ last.config) (c : s.compared ≡ last.compared)
       (v : AreCostsKnown sums s) where
-    abbrev at_place : Place → State
-    at_place place = record { max_runs = n; last = last; place = place; entries = entries }
+    abbrev at_phase : Phase → State
+    at_phase phase = record { max_runs = n; last = last; phase = phase; entries = entries }
 
     opening_replied : IsFresh start last s → (x : ℕ) → sums last.config n ≡ Some x
-        → GoesOnBy (at_place Opening) s (record { config = last.config; places = n; bound = None }) (Exact (record { 0 = x }))
+        → GoesOnBy (at_phase Opening) s (record { config = last.config; places = n; bound = None }) (Exact (record { 0 = x }))
     opening_replied f x e =
         let few : (φ : Settings) → s.counts φ ≤ n = (λ φ. let z : s.counts φ ≡ 0 = f.counts φ in omega (arith, z)) in
         record {
@@ -137,7 +137,7 @@ module _ (setup : Setup) (sums : Sums) (start : Settings) (b : setup.start ≡ s
             incumbent = i;
             compared = c;
             known = costs_known n sums last s false last.config None x v e;
-            place = record {
+            phase = record {
               most = λ φ. counts_after-most s.counts last.config n φ (few last.config) (few φ);
               top = rw i (counts_after-itself s.counts last.config n (few last.config));
               runs = refl;
@@ -149,26 +149,26 @@ module _ (setup : Setup) (sums : Sums) (start : Settings) (b : setup.start ≡ s
         }
 
     second_replied : (first second : Settings) → IsKnown n sums last s → (x : ℕ) → sums second n ≡ Some x
-        → GoesOnBy (at_place (Second first second)) s (record { config = second; places = n; bound = None }) (Exact (record { 0 = x }))
+        → GoesOnBy (at_phase (Second first second)) s (record { config = second; places = n; bound = None }) (Exact (record { 0 = x }))
     second_replied first second k x e = record {
       stays = record {
         incumbent = incumbent_after (is_better last second x) second n x None last s i;
         compared = compared_after (is_better last second x) second n x None last s c;
         known = costs_known n sums last s (is_better last second x) second None x v e;
-        place = (known_after n sums last s (is_better last second x) second None x k e, at_most_after n sums last s second x i k e);
+        phase = (known_after n sums last s (is_better last second x) second None x k e, at_most_after n sums last s second x i k e);
       };
       same = second_goes setup sums n m last s first second x i k e;
       advanced = advanced_by (is_better last second x) second n x None last s c;
     }
 
     first_replied : (first : Settings) (bound : ℕ) → IsKnown n sums last s → last.sum ≤ bound → (x : ℕ) → sums first n ≡ Some x → (t : Bool) → nat_le x bound ≡ t
-        → GoesOnBy (at_place (First first bound)) s (record { config = first; places = n; bound = Some bound }) (if t then Exact (record { 0 = x }) else Exceeds)
+        → GoesOnBy (at_phase (First first bound)) s (record { config = first; places = n; bound = Some bound }) (if t then Exact (record { 0 = x }) else Exceeds)
     first_replied first bound k h x e true t = record {
       stays = record {
         incumbent = incumbent_after (is_better last first x) first n x (Some bound) last s i;
         compared = compared_after (is_better last first x) first n x (Some bound) last s c;
         known = costs_known n sums last s (is_better last first x) first (Some bound) x v e;
-        place = known_after n sums last s (is_better last first x) first (Some bound) x k e;
+        phase = known_after n sums last s (is_better last first x) first (Some bound) x k e;
       };
       same = first_goes setup sums n m last s first bound x true i k e t;
       advanced = advanced_by (is_better last first x) first n x (Some bound) last s c;
@@ -178,27 +178,27 @@ module _ (setup : Setup) (sums : Sums) (start : Settings) (b : setup.start ≡ s
         incumbent = i;
         compared = c;
         known = costs_known n sums last s false first (Some bound) x v e;
-        place = known_after n sums last s false first (Some bound) x k e;
+        phase = known_after n sums last s false first (Some bound) x k e;
       };
       same = first_goes setup sums n m last s first bound x false i k e t
           ∙ ap (λ b. Goes (win_where b first n x (after_evaluation first n (Some bound) s)) false) (not_better last first bound x h t);
       advanced = advanced_by false first n x (Some bound) last s c;
     }
 
-    abbrev Replied : Place → Question → Type 0
-    Replied place q = (x : ℕ) → cost_asked sums q ≡ Some x → GoesOnBy (at_place place) s q (reply_up_to x q.bound)
+    abbrev Replied : Phase → Question → Type 0
+    Replied phase q = (x : ℕ) → cost_asked sums q ≡ Some x → GoesOnBy (at_phase phase) s q (reply_up_to x q.bound)
 
-    replied_by : (place : Place) → StandsAt n start sums last place s → IfSome (question_in (stage_at n last.config place)) (Replied place)
+    replied_by : (phase : Phase) → StandsAt n start sums last phase s → IfSome (question_in (stage_at n last.config phase)) (Replied phase)
     replied_by Opening k = opening_replied k
     replied_by Opened k = tt
     replied_by (Second first second) k = second_replied first second k
     replied_by (First first bound) k = λ x e. first_replied first bound k.0 k.1 x e (nat_le x bound) refl
     replied_by (Compared won) k = tt
 
-    abbrev Aborts : Place → Question → Type 0
-    Aborts place q = cost_asked sums q ≡ None → coming_at setup sums place s ≡ Ends (after_ask q.config q.places q.bound s) Aborted
+    abbrev Aborts : Phase → Question → Type 0
+    Aborts phase q = cost_asked sums q ≡ None → coming_at setup sums phase s ≡ Ends (after_ask q.config q.places q.bound s) Aborted
 
-    aborts_by : (place : Place) → StandsAt n start sums last place s → IfSome (question_in (stage_at n last.config place)) (Aborts place)
+    aborts_by : (phase : Phase) → StandsAt n start sums last phase s → IfSome (question_in (stage_at n last.config phase)) (Aborts phase)
     aborts_by Opening k = opening_aborts setup sums n m last s (k.config ∙ sym b)
     aborts_by Opened k = tt
     aborts_by (Second first second) k = second_aborts setup sums n m last s first second k
@@ -218,7 +218,7 @@ module _ (n : ℕ) (sums : Sums) (start : Settings) where
   last_fresh : (last : Incumbent) (s : PlainState) → ((θ : Settings) → sums θ 0 ≡ Some 0) → s.incumbent ≡ last.config → s.compared ≡ last.compared → IsFresh start last s → last ≡ last_of sums s
   last_fresh last s zero i c f = rw (f.counts s.incumbent, zero s.incumbent, c, i) (same_by last 0 0 f.runs f.sum)
 
-  last_by : (last : Incumbent) (place : Place) (s : PlainState) → ((θ : Settings) → sums θ 0 ≡ Some 0) → s.incumbent ≡ last.config → s.compared ≡ last.compared → StandsAt n start sums last place s → last ≡ last_of sums s
+  last_by : (last : Incumbent) (phase : Phase) (s : PlainState) → ((θ : Settings) → sums θ 0 ≡ Some 0) → s.incumbent ≡ last.config → s.compared ≡ last.compared → StandsAt n start sums last phase s → last ≡ last_of sums s
   last_by last Opening s zero i c k = last_fresh last s zero i c k
   last_by last Opened s zero i c k = last_known last s i c k
   last_by last (Second first second) s zero i c k = last_known last s i c k
@@ -226,7 +226,7 @@ module _ (n : ℕ) (sums : Sums) (start : Settings) where
   last_by last (Compared won) s zero i c k = last_known last s i c k
 
   -- the next draw doesn't matter
-  redrawn_at : (last : Incumbent) (place : Place) (s : PlainState) (e : ℕ) → StandsAt n start sums last place s → StandsAt n start sums last place (record s { event = e })
+  redrawn_at : (last : Incumbent) (phase : Phase) (s : PlainState) (e : ℕ) → StandsAt n start sums last phase s → StandsAt n start sums last phase (record s { event = e })
   redrawn_at last Opening s e k = record { counts = k.counts; config = k.config; runs = k.runs; sum = k.sum }
   redrawn_at last Opened s e k = record { most = k.most; top = k.top; runs = k.runs; sum = k.sum }
   redrawn_at last (Second first second) s e k = record { most = k.most; top = k.top; runs = k.runs; sum = k.sum }
@@ -237,14 +237,14 @@ module _ (n : ℕ) (sums : Sums) (start : Settings) where
   none_is_asked : {q : Question} → Some q ≡ None → ⊥
   none_is_asked e = cc
 
-  known_at_rest : (last : Incumbent) (place : Place) (s : PlainState) → question_in (stage_at n last.config place) ≡ None → StandsAt n start sums last place s → IsKnown n sums last s
+  known_at_rest : (last : Incumbent) (phase : Phase) (s : PlainState) → question_in (stage_at n last.config phase) ≡ None → StandsAt n start sums last phase s → IsKnown n sums last s
   known_at_rest last Opening s e k = absurd (none_is_asked e)
   known_at_rest last Opened s e k = k
   known_at_rest last (Second first second) s e k = k
   known_at_rest last (First first bound) s e k = k.0
   known_at_rest last (Compared won) s e k = k
 
-ended_at : (setup : Setup) (sums : Sums) (n : ℕ) (incumbent : Settings) (place : Place) (s : PlainState) (b : Bool) → decision_in (stage_at n incumbent place) ≡ Some b → coming_at setup sums place s ≡ Goes s b
+ended_at : (setup : Setup) (sums : Sums) (n : ℕ) (incumbent : Settings) (phase : Phase) (s : PlainState) (b : Bool) → decision_in (stage_at n incumbent phase) ≡ Some b → coming_at setup sums phase s ≡ Goes s b
 ended_at setup sums n incumbent Opening s b e = absurd (cc)
 ended_at setup sums n incumbent Opened s b e = let t : false ≡ b = cc in ap (Goes s) t
 ended_at setup sums n incumbent (Second first second) s b e = absurd (cc)
@@ -256,23 +256,23 @@ ended_at setup sums n incumbent (Compared won) s b e = let t : won ≡ b = cc in
 -- with the replies of total costs
 pub basic_keeps : (n : ℕ) (allowed : Settings → Type 0) (start : Settings) (setup : Setup) (sums : Sums) → setup.max_runs ≡ n → setup.start ≡ start → ((θ : Settings) → sums θ 0 ≡ Some 0)
     → Keeps basic_parts (IsFit n allowed) (Stands start sums) (coming_in setup sums) (better_basic setup sums) (opening_basic setup sums) setup sums
-    (record { max_runs = n; last = record { compared = 0; runs = 0; sum = 0; config = start }; place = Opening; entries = [] })
+    (record { max_runs = n; last = record { compared = 0; runs = 0; sum = 0; config = start }; phase = Opening; entries = [] })
 basic_keeps n allowed start setup sums m b zero = record {
-  opened = record { incumbent = b; compared = refl; known = λ φ. rw (zero φ) refl; place = record { counts = λ φ. refl; config = refl; runs = refl; sum = refl } };
+  opened = record { incumbent = b; compared = refl; known = λ φ. rw (zero φ) refl; phase = record { counts = λ φ. refl; config = refl; runs = refl; sum = refl } };
   opens = refl;
-  redrawn = λ c s e k. record { incumbent = k.incumbent; compared = k.compared; known = k.known; place = redrawn_at c.max_runs sums start c.last c.place s e k.place };
-  answered = λ c s q x f k a e. at_question (basic_parts.stage c) (Replied setup sums start b c.max_runs (m ∙ sym f.runs) c.last c.entries s k.incumbent k.compared k.known c.place)
-      (replied_by setup sums start b c.max_runs (m ∙ sym f.runs) c.last c.entries s k.incumbent k.compared k.known c.place k.place) q a x e;
-  aborts = λ c s q f k a e. at_question (basic_parts.stage c) (Aborts setup sums start b c.max_runs (m ∙ sym f.runs) c.last c.entries s k.incumbent k.compared k.known c.place)
-      (aborts_by setup sums start b c.max_runs (m ∙ sym f.runs) c.last c.entries s k.incumbent k.compared k.known c.place k.place) q a e;
-  begins = λ c s θ φ j f k none. let h : IsKnown c.max_runs sums c.last s = known_at_rest c.max_runs sums start c.last c.place s none k.place in record {
-    stays = record { incumbent = k.incumbent; compared = refl; known = k.known; place = record { most = h.most; top = h.top; runs = h.runs; sum = h.sum } };
+  redrawn = λ c s e k. record { incumbent = k.incumbent; compared = k.compared; known = k.known; phase = redrawn_at c.max_runs sums start c.last c.phase s e k.phase };
+  answered = λ c s q x f k a e. at_question (basic_parts.stage c) (Replied setup sums start b c.max_runs (m ∙ sym f.runs) c.last c.entries s k.incumbent k.compared k.known c.phase)
+      (replied_by setup sums start b c.max_runs (m ∙ sym f.runs) c.last c.entries s k.incumbent k.compared k.known c.phase k.phase) q a x e;
+  aborts = λ c s q f k a e. at_question (basic_parts.stage c) (Aborts setup sums start b c.max_runs (m ∙ sym f.runs) c.last c.entries s k.incumbent k.compared k.known c.phase)
+      (aborts_by setup sums start b c.max_runs (m ∙ sym f.runs) c.last c.entries s k.incumbent k.compared k.known c.phase k.phase) q a e;
+  begins = λ c s θ φ j f k none. let h : IsKnown c.max_runs sums c.last s = known_at_rest c.max_runs sums start c.last c.phase s none k.phase in record {
+    stays = record { incumbent = k.incumbent; compared = refl; known = k.known; phase = record { most = h.most; top = h.top; runs = h.runs; sum = h.sum } };
     same = refl;
     unasked = record { asks = refl; entries = refl; event = refl };
   };
   known = λ c s f k. k.known;
-  ended = λ c s b e. ended_at setup sums c.max_runs c.last.config c.place s b e;
-  last = λ c s f k. last_by c.max_runs sums start c.last c.place s zero k.incumbent k.compared k.place;
+  ended = λ c s b e. ended_at setup sums c.max_runs c.last.config c.phase s b e;
+  last = λ c s f k. last_by c.max_runs sums start c.last c.phase s zero k.incumbent k.compared k.phase;
 }
 
 -- under the rules of a search, with the replies of a table

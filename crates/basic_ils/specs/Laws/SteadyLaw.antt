@@ -13,7 +13,7 @@ use Rattle.ils_face.proofs.Trajectories.{newest-push, trajectory-none, trajector
 use Rattle.ils_face.specs.declared.asks.Reply.{Reply}
 use Rattle.ils_face.specs.declared.asks.Reply.TheVariants.{Exact, Exceeds}
 use Rattle.ils_frame.specs.Comparers.{AskedStage, Ready, Asking, Decided, question_in, SameIncumbent, NewIncumbent, Answered, Begun, InRange, IsSteadyComparer}
-use Rattle.basic_ils.specs.State.{Place, Opening, Opened, Second, First, Compared, State, stage_at, place_after, evaluated_config, is_renewed, entry, entry_where, added_at, last_after, left_at, basic_parts, first_state, IsPlaceFit, IsEntered, IsFit}
+use Rattle.basic_ils.specs.State.{Phase, Opening, Opened, Second, First, Compared, State, stage_at, phase_after, evaluated_config, is_renewed, entry, entry_where, added_at, last_after, left_at, basic_parts, first_state, IsPhaseFit, IsEntered, IsFit}
 
 -- ---- questions
 
@@ -24,7 +24,7 @@ at_question stage P h q e = subst (λ p. IfSome (question_in p) P) e h
 -- ---- what is evaluated
 
 module _ (allowed : Settings → Type 0) where
-  evaluated_allowed : (compared : ℕ) (incumbent : Settings) (place : Place) → allowed incumbent → IsPlaceFit allowed compared place → allowed (evaluated_config incumbent place)
+  evaluated_allowed : (compared : ℕ) (incumbent : Settings) (phase : Phase) → allowed incumbent → IsPhaseFit allowed compared phase → allowed (evaluated_config incumbent phase)
   evaluated_allowed compared incumbent Opening s f = s
   evaluated_allowed compared incumbent Opened s f = s
   evaluated_allowed compared incumbent (Second first second) s f = f.2
@@ -38,9 +38,9 @@ newest_compared false last e s = refl
 -- ---- a reply
 
 module _ (n : ℕ) (allowed : Settings → Type 0) where
-  after_compared : (last : Incumbent) (place : Place) (r : Reply) → (last_after last (added_at n last place r)).compared ≡ last.compared
-  after_compared last place (Exact x) = newest_compared (is_renewed last place x.0) last (entry n last (evaluated_config last.config place) x.0) refl
-  after_compared last place Exceeds = refl
+  after_compared : (last : Incumbent) (phase : Phase) (r : Reply) → (last_after last (added_at n last phase r)).compared ≡ last.compared
+  after_compared last phase (Exact x) = newest_compared (is_renewed last phase x.0) last (entry n last (evaluated_config last.config phase) x.0) refl
+  after_compared last phase Exceeds = refl
 
   -- the entry of a new incumbent, where it is one
   trajectory_where : (most : ℕ) (b : Bool) (es : List Incumbent) (last e : Incumbent)
@@ -49,29 +49,29 @@ module _ (n : ℕ) (allowed : Settings → Type 0) where
   trajectory_where most true es last e t s c r = trajectory-push most allowed es last e t (omega (arith, s)) c r
   trajectory_where most false es last e t s c r = subst (λ es. IsTrajectory most allowed es last) (sym (append-nil es)) t
 
-  trajectory_after : (most : ℕ) (es : List Incumbent) (last : Incumbent) (place : Place) (r : Reply)
-      → n ≤ most → IsTrajectory most allowed es last → IsPlaceFit allowed last.compared place
-      → IsTrajectory most allowed (es ++ added_at n last place r) (last_after last (added_at n last place r))
-  trajectory_after most es last place (Exact x) few t f =
-      trajectory_where most (is_renewed last place x.0) es last (entry n last (evaluated_config last.config place) x.0) t refl
-      (evaluated_allowed allowed last.compared last.config place t.config f) few
-  trajectory_after most es last place Exceeds few t f = subst (λ es. IsTrajectory most allowed es last) (sym (append-nil es)) t
+  trajectory_after : (most : ℕ) (es : List Incumbent) (last : Incumbent) (phase : Phase) (r : Reply)
+      → n ≤ most → IsTrajectory most allowed es last → IsPhaseFit allowed last.compared phase
+      → IsTrajectory most allowed (es ++ added_at n last phase r) (last_after last (added_at n last phase r))
+  trajectory_after most es last phase (Exact x) few t f =
+      trajectory_where most (is_renewed last phase x.0) es last (entry n last (evaluated_config last.config phase) x.0) t refl
+      (evaluated_allowed allowed last.compared last.config phase t.config f) few
+  trajectory_after most es last phase Exceeds few t f = subst (λ es. IsTrajectory most allowed es last) (sym (append-nil es)) t
 
   newest_where : (b : Bool) (es : List Incumbent) (e : Incumbent) → IsSome (newest es) → IsSome (newest (es ++ entry_where b e))
   newest_where true es e h = subst (λ (o : Option Incumbent). IsSome o) (sym (newest-push es e)) refl
   newest_where false es e h = subst (λ (es : List Incumbent). IsSome (newest es)) (sym (append-nil es)) h
 
-  newest_after : (es : List Incumbent) (last : Incumbent) (place : Place) (r : Reply) → IsSome (newest es)
-      → IsSome (newest (es ++ added_at n last place r))
-  newest_after es last place (Exact x) h =
-      newest_where (is_renewed last place x.0) es (entry n last (evaluated_config last.config place) x.0) h
-  newest_after es last place Exceeds h = newest_where false es last h
+  newest_after : (es : List Incumbent) (last : Incumbent) (phase : Phase) (r : Reply) → IsSome (newest es)
+      → IsSome (newest (es ++ added_at n last phase r))
+  newest_after es last phase (Exact x) h =
+      newest_where (is_renewed last phase x.0) es (entry n last (evaluated_config last.config phase) x.0) h
+  newest_after es last phase Exceeds h = newest_where false es last h
 
-  abbrev IsEnteredAfter : List Incumbent → Incumbent → Place → Reply → Question → Type 0
-  IsEnteredAfter es last place r q = Fits (ask_of q.config q.places q.bound) r → IsEntered (place_after place r) (es ++ added_at n last place r)
+  abbrev IsEnteredAfter : List Incumbent → Incumbent → Phase → Reply → Question → Type 0
+  IsEnteredAfter es last phase r q = Fits (ask_of q.config q.places q.bound) r → IsEntered (phase_after phase r) (es ++ added_at n last phase r)
 
-  entered_after : (es : List Incumbent) (last : Incumbent) (place : Place) (r : Reply) → IsEntered place es
-      → IfSome (question_in (stage_at n last.config place)) (IsEnteredAfter es last place r)
+  entered_after : (es : List Incumbent) (last : Incumbent) (phase : Phase) (r : Reply) → IsEntered phase es
+      → IfSome (question_in (stage_at n last.config phase)) (IsEnteredAfter es last phase r)
   entered_after es last Opening (Exact x) h = λ fits.
       subst (λ (o : Option Incumbent). IsSome o) (sym (newest-push es (entry n last last.config x.0))) refl
   entered_after es last Opening Exceeds h = λ fits. absurd fits
@@ -82,22 +82,22 @@ module _ (n : ℕ) (allowed : Settings → Type 0) where
   entered_after es last (First first bound) Exceeds h = λ fits. newest_after es last (First first bound) Exceeds h
   entered_after es last (Compared won) r h = tt
 
-  entered_at : (incumbent : Settings) (place : Place) (es : List Incumbent) → IsEntered place es
-      → question_in (stage_at n incumbent place) ≡ None → IsSome (newest es)
+  entered_at : (incumbent : Settings) (phase : Phase) (es : List Incumbent) → IsEntered phase es
+      → question_in (stage_at n incumbent phase) ≡ None → IsSome (newest es)
   entered_at incumbent Opening es h e = absurd (cc)
   entered_at incumbent Opened es h e = h
   entered_at incumbent (Second first second) es h e = h
   entered_at incumbent (First first bound) es h e = h
   entered_at incumbent (Compared won) es h e = h
 
-  place_fit : (compared : ℕ) (place : Place) (r : Reply) → IsPlaceFit allowed compared place → IsPlaceFit allowed compared (place_after place r)
-  place_fit compared Opening r f = f
-  place_fit compared Opened r f = f
-  place_fit compared (Second first second) (Exact x) f = (f.0, f.1)
-  place_fit compared (Second first second) Exceeds f = f.0
-  place_fit compared (First first bound) (Exact x) f = f.0
-  place_fit compared (First first bound) Exceeds f = f.0
-  place_fit compared (Compared won) r f = f
+  phase_fit : (compared : ℕ) (phase : Phase) (r : Reply) → IsPhaseFit allowed compared phase → IsPhaseFit allowed compared (phase_after phase r)
+  phase_fit compared Opening r f = f
+  phase_fit compared Opened r f = f
+  phase_fit compared (Second first second) (Exact x) f = (f.0, f.1)
+  phase_fit compared (Second first second) Exceeds f = f.0
+  phase_fit compared (First first bound) (Exact x) f = f.0
+  phase_fit compared (First first bound) Exceeds f = f.0
+  phase_fit compared (Compared won) r f = f
 
   same : (last : Incumbent) → SameIncumbent last last
   same last = record { config = refl; runs = refl; sum = refl }
@@ -106,21 +106,21 @@ module _ (n : ℕ) (allowed : Settings → Type 0) where
   renewed true last q x e h = inr h
   renewed false last q x e h = inl (same last)
 
-  abbrev Earned : Incumbent → Place → Question → Type 0
-  Earned last place q = (r : Reply) → SameIncumbent last (last_after last (added_at n last place r)) ⊎ NewIncumbent q r (last_after last (added_at n last place r))
+  abbrev Earned : Incumbent → Phase → Question → Type 0
+  Earned last phase q = (r : Reply) → SameIncumbent last (last_after last (added_at n last phase r)) ⊎ NewIncumbent q r (last_after last (added_at n last phase r))
 
-  earned_by : (last : Incumbent) (place : Place) (q : Question) → evaluated_config last.config place ≡ q.config → n ≡ q.places → Earned last place q
-  earned_by last place q c p (Exact x) = renewed (is_renewed last place x.0) last q x.0 (entry n last (evaluated_config last.config place) x.0) (record { config = c; runs = p; cost = refl })
-  earned_by last place q c p Exceeds = inl (same last)
+  earned_by : (last : Incumbent) (phase : Phase) (q : Question) → evaluated_config last.config phase ≡ q.config → n ≡ q.places → Earned last phase q
+  earned_by last phase q c p (Exact x) = renewed (is_renewed last phase x.0) last q x.0 (entry n last (evaluated_config last.config phase) x.0) (record { config = c; runs = p; cost = refl })
+  earned_by last phase q c p Exceeds = inl (same last)
 
-  earned : (last : Incumbent) (place : Place) → IfSome (question_in (stage_at n last.config place)) (Earned last place)
+  earned : (last : Incumbent) (phase : Phase) → IfSome (question_in (stage_at n last.config phase)) (Earned last phase)
   earned last Opening = earned_by last Opening (record { config = last.config; places = n; bound = None }) refl refl
   earned last Opened = tt
   earned last (Second first second) = earned_by last (Second first second) (record { config = second; places = n; bound = None }) refl refl
   earned last (First first bound) = earned_by last (First first bound) (record { config = first; places = n; bound = Some bound }) refl refl
   earned last (Compared won) = tt
 
-  nearer : (incumbent : Settings) (place : Place) (r : Reply) → IfSome (question_in (stage_at n incumbent place)) (λ q. left_at (place_after place r) < left_at place)
+  nearer : (incumbent : Settings) (phase : Phase) (r : Reply) → IfSome (question_in (stage_at n incumbent phase)) (λ q. left_at (phase_after phase r) < left_at phase)
   nearer incumbent Opening r = omega arith
   nearer incumbent Opened r = tt
   nearer incumbent (Second first second) (Exact x) = omega arith
@@ -129,28 +129,28 @@ module _ (n : ℕ) (allowed : Settings → Type 0) where
   nearer incumbent (First first bound) Exceeds = omega arith
   nearer incumbent (Compared won) r = tt
 
-  asked_in_range : (last : Incumbent) (place : Place) → 1 ≤ n → allowed last.config → IsPlaceFit allowed last.compared place → IfSome (question_in (stage_at n last.config place)) (InRange n allowed)
+  asked_in_range : (last : Incumbent) (phase : Phase) → 1 ≤ n → allowed last.config → IsPhaseFit allowed last.compared phase → IfSome (question_in (stage_at n last.config phase)) (InRange n allowed)
   asked_in_range last Opening some s f = record { config = s; some = some; within = le_refl n }
   asked_in_range last Opened some s f = tt
   asked_in_range last (Second first second) some s f = record { config = f.2; some = some; within = le_refl n }
   asked_in_range last (First first bound) some s f = record { config = f.1; some = some; within = le_refl n }
   asked_in_range last (Compared won) some s f = tt
 
-  few_left : (place : Place) → left_at place ≤ 2
+  few_left : (phase : Phase) → left_at phase ≤ 2
   few_left Opening = omega arith
   few_left Opened = omega arith
   few_left (Second first second) = omega arith
   few_left (First first bound) = omega arith
   few_left (Compared won) = omega arith
 
-  ready_fit : (compared : ℕ) (incumbent : Settings) (place : Place) → IsPlaceFit allowed compared place → stage_at n incumbent place ≡ Ready → compared ≡ 0
+  ready_fit : (compared : ℕ) (incumbent : Settings) (phase : Phase) → IsPhaseFit allowed compared phase → stage_at n incumbent phase ≡ Ready → compared ≡ 0
   ready_fit compared incumbent Opening f e = f
   ready_fit compared incumbent Opened f e = f
   ready_fit compared incumbent (Second first second) f e = absurd (cc)
   ready_fit compared incumbent (First first bound) f e = absurd (cc)
   ready_fit compared incumbent (Compared won) f e = absurd (cc)
 
-  decided_fit : (compared : ℕ) (incumbent : Settings) (place : Place) (b : Bool) → IsPlaceFit allowed compared place → stage_at n incumbent place ≡ Decided b → 1 ≤ compared
+  decided_fit : (compared : ℕ) (incumbent : Settings) (phase : Phase) (b : Bool) → IsPhaseFit allowed compared phase → stage_at n incumbent phase ≡ Decided b → 1 ≤ compared
   decided_fit compared incumbent Opening b f e = absurd (cc)
   decided_fit compared incumbent Opened b f e = absurd (cc)
   decided_fit compared incumbent (Second first second) b f e = f.0
@@ -165,20 +165,20 @@ module _ (n : ℕ) (allowed : Settings → Type 0) where
   fit_after c q r f e fits = record {
     runs = f.runs;
     some = f.some;
-    place = subst (λ m. IsPlaceFit allowed m (place_after c.place r)) (sym (after_compared c.max_runs allowed c.last c.place r)) (place_fit c.max_runs allowed c.last.compared c.place r f.place);
-    trajectory = trajectory_after c.max_runs allowed n c.entries c.last c.place r (let k = f.runs in omega (arith, k)) f.trajectory f.place;
-    entered = at_question (basic_parts.stage c) (IsEnteredAfter c.max_runs allowed c.entries c.last c.place r)
-        (entered_after c.max_runs allowed c.entries c.last c.place r f.entered) q e fits;
+    phase = subst (λ m. IsPhaseFit allowed m (phase_after c.phase r)) (sym (after_compared c.max_runs allowed c.last c.phase r)) (phase_fit c.max_runs allowed c.last.compared c.phase r f.phase);
+    trajectory = trajectory_after c.max_runs allowed n c.entries c.last c.phase r (let k = f.runs in omega (arith, k)) f.trajectory f.phase;
+    entered = at_question (basic_parts.stage c) (IsEnteredAfter c.max_runs allowed c.entries c.last c.phase r)
+        (entered_after c.max_runs allowed c.entries c.last c.phase r f.entered) q e fits;
   }
 
   answered : (c : State) (q : Question) (r : Reply) → IsFit n allowed c → basic_parts.stage c ≡ Asking q
       → Fits (ask_of q.config q.places q.bound) r → Answered basic_parts (IsFit n allowed) c q r
   answered c q r f e fits = record {
     stays_fit = fit_after c q r f e fits;
-    nearer = at_question (basic_parts.stage c) (λ q. left_at (place_after c.place r) < left_at c.place) (nearer c.max_runs allowed c.last.config c.place r) q e;
+    nearer = at_question (basic_parts.stage c) (λ q. left_at (phase_after c.phase r) < left_at c.phase) (nearer c.max_runs allowed c.last.config c.phase r) q e;
     grown = refl;
-    compared = after_compared c.max_runs allowed c.last c.place r;
-    incumbent = at_question (basic_parts.stage c) (Earned c.max_runs allowed c.last c.place) (earned c.max_runs allowed c.last c.place) q e r;
+    compared = after_compared c.max_runs allowed c.last c.phase r;
+    incumbent = at_question (basic_parts.stage c) (Earned c.max_runs allowed c.last c.phase) (earned c.max_runs allowed c.last c.phase) q e r;
   }
 
   begins : (c : State) (θ φ : Settings) (m : ℕ) → IsFit n allowed c → question_in (basic_parts.stage c) ≡ None
@@ -188,9 +188,9 @@ module _ (n : ℕ) (allowed : Settings → Type 0) where
     stays_fit = record {
       runs = f.runs;
       some = f.some;
-      place = (omega (arith, later), s, t);
+      phase = (omega (arith, later), s, t);
       trajectory = trajectory-begin n allowed c.entries c.last m f.trajectory (omega (arith, later));
-      entered = entered_at c.max_runs allowed c.last.config c.place c.entries f.entered none;
+      entered = entered_at c.max_runs allowed c.last.config c.phase c.entries f.entered none;
     };
     few = omega arith;
     asks_first = refl;
@@ -202,16 +202,16 @@ module _ (n : ℕ) (allowed : Settings → Type 0) where
   in_range : (c : State) (q : Question) → IsFit n allowed c → basic_parts.stage c ≡ Asking q → InRange n allowed q
   in_range c q f e =
       let some : 1 ≤ c.max_runs = subst (λ k. 1 ≤ k) (sym f.runs) f.some in
-      subst (λ k. InRange k allowed q) f.runs (at_question (basic_parts.stage c) (InRange c.max_runs allowed) (asked_in_range c.max_runs allowed c.last c.place some f.trajectory.config f.place) q e)
+      subst (λ k. InRange k allowed q) f.runs (at_question (basic_parts.stage c) (InRange c.max_runs allowed) (asked_in_range c.max_runs allowed c.last c.phase some f.trajectory.config f.phase) q e)
 
 -- whatever fitting replies come
 pub basic_steady : (n : ℕ) (allowed : Settings → Type 0) (start : Settings) → 1 ≤ n → allowed start
-    → IsSteadyComparer basic_parts (IsFit n allowed) n allowed start (record { max_runs = n; last = record { compared = 0; runs = 0; sum = 0; config = start }; place = Opening; entries = [] })
+    → IsSteadyComparer basic_parts (IsFit n allowed) n allowed start (record { max_runs = n; last = record { compared = 0; runs = 0; sum = 0; config = start }; phase = Opening; entries = [] })
 basic_steady n allowed start some s = record {
   opened = record {
     runs = refl;
     some = some;
-    place = refl;
+    phase = refl;
     trajectory = trajectory-none n allowed (record { compared = 0; runs = 0; sum = 0; config = start }) s (omega arith);
     entered = tt;
   };
@@ -219,9 +219,9 @@ basic_steady n allowed start some s = record {
   nothing_yet = refl;
   in_range = in_range n allowed;
   trajectory = λ c f. f.trajectory;
-  entered = λ c f none. entered_at c.max_runs allowed c.last.config c.place c.entries f.entered none;
-  ready_first = λ c f e. ready_fit c.max_runs allowed c.last.compared c.last.config c.place f.place e;
-  decided_later = λ c b f e. decided_fit c.max_runs allowed c.last.compared c.last.config c.place b f.place e;
+  entered = λ c f none. entered_at c.max_runs allowed c.last.config c.phase c.entries f.entered none;
+  ready_first = λ c f e. ready_fit c.max_runs allowed c.last.compared c.last.config c.phase f.phase e;
+  decided_later = λ c b f e. decided_fit c.max_runs allowed c.last.compared c.last.config c.phase b f.phase e;
   answered = λ c q r f e fits. answered n allowed c q r f e fits;
   begins = λ c θ φ m f none later s t. begins n allowed c θ φ m f none later s t;
 }

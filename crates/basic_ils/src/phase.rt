@@ -4,7 +4,7 @@ use param_space::Config;
 
 /// How far a comparison is; the configuration that is asked for isn't in it.
 #[derive(Drop)]
-pub(crate) enum Place {
+pub(crate) enum Phase {
     /// The default configuration is asked for.
     Opening,
     /// Nothing was compared yet.
