@@ -119,7 +119,8 @@ impl Cache {
         requires from_one { 1 ≤ cell.now.place }
         requires most { cell.now.place ≤ max_runs }
         ensures place { OnOk result (IsTrue (has_place_for self.new cell.now)) }
-        ensures places { (config : List ℕ) (place : ℕ) → IsTrue (has_place_in self.old config place) → IsTrue (has_place_in self.new config place) }
+        ensures places { (config : List ℕ) (place : ℕ)
+            → IsTrue (has_place_in self.old config place) → IsTrue (has_place_in self.new config place) }
         ensures known { known_in self.new ≡ known_in self.old }
         ensures limits { self.new.limits ≡ self.old.limits }
         ensures conflicts { self.new.conflicts ≡ self.old.conflicts }
@@ -155,13 +156,18 @@ impl Cache {
         requires place { IsTrue (has_place_for self.old cell.now) }
         requires cutoff { IsCutoff self.old.limits cutoff.0 }
         requires within { IsWithin answer cutoff.0 }
-        ensures answer { result ≡ Learning.learnt (known_of self.old cell.now) (lesson_in self.old cell.now cutoff.0 answer) }
-        ensures known { known_in self.new ≡ known_after (known_in self.old) cell.now (lesson_in self.old cell.now cutoff.0 answer).known }
-        ensures conflicts { self.new.conflicts ≡ conflicts_after self.old.conflicts (lesson_in self.old cell.now cutoff.0 answer).conflict }
+        ensures answer { result
+            ≡ Learning.learnt (known_of self.old cell.now) (lesson_in self.old cell.now cutoff.0 answer) }
+        ensures known { known_in self.new
+            ≡ known_after (known_in self.old) cell.now (lesson_in self.old cell.now cutoff.0 answer).known }
+        ensures conflicts { self.new.conflicts
+            ≡ conflicts_after self.old.conflicts (lesson_in self.old cell.now cutoff.0 answer).conflict }
         ensures limits { self.new.limits ≡ self.old.limits }
         ensures places { has_place_in self.new ≡ has_place_in self.old }
-        ensures outcome { (o : Outcome) → Agrees self.old.limits (known_of self.old cell.now) o → answer ≡ seen o cutoff.0 → GoesWith self.old self.new cell.now o result }
-        ensures table { (T : Table) → AgreesWith T self.old → answer ≡ seen (T cell.now.config cell.now.place) cutoff.0 → AgreesWith T self.new }
+        ensures outcome { (o : Outcome) → Agrees self.old.limits (known_of self.old cell.now) o
+            → answer ≡ seen o cutoff.0 → GoesWith self.old self.new cell.now o result }
+        ensures table { (T : Table) → AgreesWith T self.old → answer ≡ seen (T cell.now.config cell.now.place) cutoff.0
+            → AgreesWith T self.new }
     {
         let before = self.known(cell);
         let lesson = lesson_of(&self.limits, before, cutoff, answer);
