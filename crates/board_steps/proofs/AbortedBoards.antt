@@ -22,7 +22,7 @@ use Rattle.run_cache.specs.Caches.{Knowledge}
 use Rattle.capping.specs.declared.verdicts.Verdict.{Verdict}
 use Rattle.capping.specs.declared.verdicts.Verdict.TheVariants as verdict
 use Rattle.capping.specs.Decisions.{place_count, IsKnownAbort, IsFirstAbort}
-use Rattle.capping.proofs.AbortedAsks.{known-abort, first-abort}
+use Rattle.capping.proofs.AbortVerdicts.{known-abort, first-abort}
 use Rattle.capping.proofs.OtherCells.{abort-stays}
 use Rattle.board_steps.specs.declared.answers.BoardVerdict.TheVariants as board_verdict
 use Rattle.board_steps.specs.declared.events.Event.{Event}

@@ -31,7 +31,7 @@ use Rattle.run_cache.specs.declared.cell.Cell.{Cell}
 use Rattle.run_cache.specs.declared.known.Known.TheVariants.{Abort}
 use Rattle.run_cache.specs.Knowledge.{Agrees}
 use Rattle.capping.specs.Decisions.{place_count}
-use Rattle.capping.proofs.AbortedPlaces.{total_cost-none}
+use Rattle.capping.proofs.WalkAborts.{total_cost-none}
 use Rattle.board_steps.specs.Boards.{PlainBoard}
 use Rattle.board_steps.specs.BoardVerdicts.{config_of, ask_on}
 use Rattle.board_steps.specs.Problem.{Problem}

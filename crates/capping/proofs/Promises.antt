@@ -28,7 +28,7 @@ use Rattle.capping.proofs.ExactSums.{parts_of}
 use Rattle.capping.proofs.WalkEnds.{IsEnd, walk_end}
 use Rattle.capping.proofs.RepliedCosts.{fitting, replied}
 use Rattle.capping.proofs.NeededRuns.{needed, due}
-use Rattle.capping.proofs.AbortedPlaces.{known_abort, first_abort}
+use Rattle.capping.proofs.WalkAborts.{known_abort, first_abort}
 use Rattle.capping.proofs.LearntAnswers.{needs_later, after_run-here, after_run-other}
 
 -- ---- the sum that is replied

@@ -37,35 +37,32 @@ place_count (Full θ n) = n
 place_count (Versus θ n bound) = n
 place_count End = 0
 
--- the fact of the reply, where there is one
+-- where the ask is replied to, the fact of its reply
 abbrev pub IfReply : Verdict → (Reply → Type 0) → Type 0
 IfReply (TheVariants.Reply r) P = P r
 IfReply (TheVariants.Need place cutoff) P = Unit {0}
 IfReply (TheVariants.Aborted place) P = Unit {0}
 IfReply TheVariants.Ended P = Unit {0}
 
--- the fact of the place and the cutoff, where a run is needed
+-- where a run is needed, the fact of its place and its cutoff
 abbrev pub IfNeed : Verdict → (ℕ → ℕ → Type 0) → Type 0
 IfNeed (TheVariants.Reply r) P = Unit {0}
 IfNeed (TheVariants.Need place cutoff) P = P place cutoff.0
 IfNeed (TheVariants.Aborted place) P = Unit {0}
 IfNeed TheVariants.Ended P = Unit {0}
 
--- the fact of the place, the cutoff and the question, where a run is needed
+-- the same fact of them and of the ask's question
 abbrev pub IfNeedOf : Verdict → Ask → (ℕ → ℕ → Question → Type 0) → Type 0
-IfNeedOf (TheVariants.Reply r) ask P = Unit {0}
-IfNeedOf (TheVariants.Need place cutoff) ask P = IsSomeAnd (question_of ask) (P place cutoff.0)
-IfNeedOf (TheVariants.Aborted place) ask P = Unit {0}
-IfNeedOf TheVariants.Ended ask P = Unit {0}
+IfNeedOf verdict ask P = IfNeed verdict (λ place cutoff. IsSomeAnd (question_of ask) (P place cutoff))
 
--- the fact of the place and the question, where its run asked for the end of the tuning
+-- where a run asked for the end of the tuning, the fact of its place and of the ask's question
 abbrev pub IfAbortedOf : Verdict → Ask → (ℕ → Question → Type 0) → Type 0
 IfAbortedOf (TheVariants.Reply r) ask P = Unit {0}
 IfAbortedOf (TheVariants.Need place cutoff) ask P = Unit {0}
 IfAbortedOf (TheVariants.Aborted place) ask P = IsSomeAnd (question_of ask) (P place)
 IfAbortedOf TheVariants.Ended ask P = Unit {0}
 
--- the fact, where nothing is asked for
+-- where nothing is asked for, the fact
 abbrev pub OnEnded : Verdict → Type 0 → Type 0
 OnEnded (TheVariants.Reply r) P = Unit {0}
 OnEnded (TheVariants.Need place cutoff) P = Unit {0}

@@ -121,7 +121,8 @@ pub fn decide(cache: &Cache, ask: &Ask) -> Verdict
     ensures reply { (T : Table) → AgreesWith T cache.now
         → IfReply result (λ r. IsSomeAnd (question_of ask.now) (IsReplyBy (total_cost cache.now.limits (quiet T)) r)) }
     ensures due { (T : Table) → AgreesWith T cache.now → IfNeedOf result ask.now (IsDueAt cache.now.limits T) }
-    ensures aborted { (T : Table) → AgreesWith T cache.now → IfAbortedOf result ask.now (IsFirstAbort cache.now.limits T) }
+    ensures aborted { (T : Table) → AgreesWith T cache.now
+        → IfAbortedOf result ask.now (IsFirstAbort cache.now.limits T) }
 {
     verdict_on(cache, ask)
 }

@@ -1,4 +1,4 @@
--- What a verdict says of the ask whose walk comes to an abort.
+-- What the verdict of an abort says of its ask.
 use Rattle.std.specs.Prelude.{ℕ, ◌≡◌, Option, Some, None, IsSomeAnd, List, refl}
 use Rattle.std.proofs.Common.{subst, arith}
 use Rattle.objective.specs.Bounds.{Bounds}
@@ -13,7 +13,7 @@ use Rattle.capping.specs.declared.verdicts.Verdict.TheVariants.{Aborted}
 use Rattle.capping.specs.Verdicts.{verdict_from, verdict_of}
 use Rattle.capping.specs.Decisions.{IfAbortedOf, IsKnownAbort, IsFirstAbort}
 use Rattle.capping.proofs.WalkEnds.{IsEnd, IsAborting, walk_end}
-use Rattle.capping.proofs.AbortedPlaces.{first_abort}
+use Rattle.capping.proofs.WalkAborts.{first_abort}
 use Rattle.capping.proofs.Promises.{found}
 
 -- the place of the abort is known as one, and the costs before it are known
