@@ -21,7 +21,7 @@ use Rattle.capping.specs.Decisions.{place_count, IfReply}
 use Rattle.capping.proofs.Promises.{fits}
 use Rattle.predictor.specs.declared.wish.Wish.{Wish}
 use Rattle.predictor.specs.Choices.{run_of}
-use Rattle.predictor.specs.Wishes.{runs_from, runs_after, Turn, turn_of, followed_by, turn_after, runs_ahead}
+use Rattle.predictor.specs.Wishes.{runs_from, runs_after, AheadTurn, turn_of, followed_by, turn_after, runs_ahead}
 use Rattle.predictor.specs.Promises.{IsWish}
 use Rattle.predictor.proofs.NeededPlaces.{OnNeed, IsNeededFrom, needed_of}
 use Rattle.predictor.proofs.Turns.{ahead-none, ahead-more}
@@ -70,7 +70,7 @@ module _ (rules : Rules) (limits : Bounds) where
   turn_runs ask (Aborted place) a h = All-nil (IsWish rules limits)
   turn_runs ask Ended a h = All-nil (IsWish rules limits)
 
-  all_runs : (P : Wish → Type 0) (ask : Ask) (turn : Turn) (after : Reply → List Wish) → All P turn.runs
+  all_runs : (P : Wish → Type 0) (ask : Ask) (turn : AheadTurn) (after : Reply → List Wish) → All P turn.runs
       → ((r : Reply) → Fits ask r → All P (after r)) → (o : Option Reply) → turn.reply ≡ o → IfSome o (Fits ask) → All P (followed_by turn after)
   all_runs P ask turn after now later None e fit = rw e (All-append P turn.runs [] now (All-nil P))
   all_runs P ask turn after now later (Some r) e fit = rw e (All-append P turn.runs (after r) now (later r fit))

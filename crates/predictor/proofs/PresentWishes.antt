@@ -14,13 +14,9 @@ use Rattle.ils_face.specs.Views.{View}
 use Rattle.run_cache.specs.Caches.{Knowledge}
 use Rattle.capping.specs.declared.verdicts.Verdict.{Verdict}
 use Rattle.capping.specs.declared.verdicts.Verdict.TheVariants.{Need, Aborted, Ended, Reply as Replied}
-use Rattle.predictor.specs.Choices.{Choice, with_run, with_runs}
+use Rattle.predictor.specs.Choices.{Choice, none_yet, with_run, with_runs}
 use Rattle.predictor.specs.Wishes.{runs_after, runs_ahead, wishes_at}
 use Rattle.predictor.proofs.AddedRuns.{full_stays}
-
--- no wishes yet, beside the needed cell
-abbrev pub none_yet : ℕ → Settings → ℕ → Choice
-none_yet k config place = record { needed = record { config = config; place = place }; most = k; wishes = [] }
 
 module _ (shown : List Reply → View) (limits : Bounds) (known : Knowledge) (replies : List Reply) where
   -- where no run is needed there are none

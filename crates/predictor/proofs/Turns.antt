@@ -10,15 +10,15 @@ use Rattle.run_cache.specs.Caches.{Knowledge}
 use Rattle.capping.specs.Verdicts.{verdict_of}
 use Rattle.predictor.specs.declared.wish.Wish.{Wish}
 use Rattle.predictor.specs.Choices.{Choice, has_room, with_run, with_runs}
-use Rattle.predictor.specs.Wishes.{Turn, turn_of, followed_by, turn_after, runs_ahead}
+use Rattle.predictor.specs.Wishes.{AheadTurn, turn_of, followed_by, turn_after, runs_ahead}
 use Rattle.predictor.proofs.AddedRuns.{full_stays}
 
 -- the runs of a turn that isn't the last, and of those after it
-goes_on : (turn : Turn) (after : Reply → List Wish) (r : Reply) → turn.reply ≡ Some r → followed_by turn after ≡ turn.runs ++ after r
+goes_on : (turn : AheadTurn) (after : Reply → List Wish) (r : Reply) → turn.reply ≡ Some r → followed_by turn after ≡ turn.runs ++ after r
 goes_on turn after r e = rw e refl
 
 -- the runs of the last turn, and no more
-ends_here : (turn : Turn) (after : Reply → List Wish) → turn.reply ≡ None → followed_by turn after ≡ turn.runs ++ []
+ends_here : (turn : AheadTurn) (after : Reply → List Wish) → turn.reply ≡ None → followed_by turn after ≡ turn.runs ++ []
 ends_here turn after e = rw e refl
 
 module _ (shown : List Reply → View) (limits : Bounds) (known : Knowledge) where

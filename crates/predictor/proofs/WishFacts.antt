@@ -20,13 +20,13 @@ use Rattle.capping.specs.declared.verdicts.Verdict.TheVariants.{Need, Aborted, E
 use Rattle.capping.specs.Verdicts.{verdict_of}
 use Rattle.capping.specs.Decisions.{place_count}
 use Rattle.predictor.specs.declared.wish.Wish.{Wish}
-use Rattle.predictor.specs.Choices.{with_runs}
+use Rattle.predictor.specs.Choices.{none_yet, with_runs}
 use Rattle.predictor.specs.Wishes.{runs_after, runs_ahead, wishes_at}
 use Rattle.predictor.specs.Promises.{needed_cell, IsWish, TellsMore, AreApart}
 use Rattle.predictor.proofs.NeededPlaces.{OnNeed, IsNeededFrom, needed_of}
 use Rattle.predictor.proofs.ChosenWishes.{chosen}
 use Rattle.predictor.proofs.FoundRuns.{later_runs, runs_found}
-use Rattle.predictor.proofs.PresentWishes.{none_yet, without_need, at_end, in_full, with_bound}
+use Rattle.predictor.proofs.PresentWishes.{without_need, at_end, in_full, with_bound}
 
 -- what is promised of wishes, beside the needed cell where there is one
 pub record AreWishes (rules : Rules) (limits : Bounds) (known : Knowledge) (needed : Option Cell) (k : ℕ) (wishes : List Wish) : Type 0 where

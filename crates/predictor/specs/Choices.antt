@@ -3,6 +3,7 @@ use Rattle.std.specs.Prelude.{ℕ, Bool, not, ◌&&◌, List, [], ◌∷◌, ◌
 use Rattle.std.specs.List.{fold, list_any}
 use Rattle.uncapped.specs.Procedure.{Settings}
 use Rattle.run_cache.specs.declared.cell.Cell.{Cell}
+use Rattle.run_cache.specs.declared.known.Known.{Known}
 use Rattle.run_cache.specs.Knowledge.{is_settled}
 use Rattle.run_cache.specs.Caches.{Knowledge, is_at}
 use Rattle.predictor.specs.declared.wish.Wish.{Wish}
@@ -16,6 +17,10 @@ pub record Choice : Type 0 where
   pub needed : Cell
   pub most : ℕ
   pub wishes : List Wish
+
+-- no wishes yet, beside the configuration at the place
+abbrev pub none_yet : ℕ → Settings → ℕ → Choice
+none_yet most config place = record { needed = record { config = config; place = place }; most = most; wishes = [] }
 
 -- there are fewer wishes than the most
 abbrev pub has_room : Choice → Bool
@@ -36,10 +41,13 @@ with_wish choice run =
     then record choice { wishes = choice.wishes ++ run ∷ [] }
     else choice
 
--- with a wish for the run, unless it would tell nothing more
+-- with a wish for the run, unless it would tell nothing more than this, which is known of its cell
+abbrev pub with_unsettled : Known → Choice → Wish → Choice
+with_unsettled known choice run = if is_settled known run.cutoff.0 then choice else with_wish choice run
+
+-- the same by what is known of each cell
 abbrev pub with_run : Knowledge → Choice → Wish → Choice
-with_run known choice run =
-    if is_settled (known run.cell.config run.cell.place) run.cutoff.0 then choice else with_wish choice run
+with_run known choice run = with_unsettled (known run.cell.config run.cell.place) choice run
 
 -- with wishes for these runs, in their order, as far as there is room
 abbrev pub with_runs : Knowledge → Choice → List Wish → Choice

@@ -1,4 +1,5 @@
 pub mod Choices
 pub mod Wishes
 pub mod Promises
+pub mod SearchWishes
 pub mod Examples

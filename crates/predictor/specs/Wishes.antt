@@ -12,7 +12,7 @@ use Rattle.capping.specs.declared.verdicts.Verdict.{Verdict}
 use Rattle.capping.specs.declared.verdicts.Verdict.TheVariants.{Need, Reply as Replied}
 use Rattle.capping.specs.Verdicts.{verdict_of}
 use Rattle.predictor.specs.declared.wish.Wish.{Wish}
-use Rattle.predictor.specs.Choices.{run_of, with_runs}
+use Rattle.predictor.specs.Choices.{run_of, none_yet, with_runs}
 
 -- runs of a configuration at so many places, from this one on
 abbrev pub runs_from : Settings → ℕ → ℕ → ℕ → List Wish
@@ -24,23 +24,23 @@ abbrev pub runs_after : Settings → ℕ → ℕ → ℕ → List Wish
 runs_after config cutoff place last = runs_from config cutoff (suc place) (last - place)
 
 -- a turn of looking ahead: the runs that the ask needs, and what it is then answered, unless that is the last turn
-pub record Turn : Type 0 where
+pub record AheadTurn : Type 0 where
   pub runs : List Wish
   pub reply : Option Reply
 
 -- the last turn, with these runs
-abbrev pub ends : List Wish → Turn
+abbrev pub ends : List Wish → AheadTurn
 ends runs = record { runs = runs; reply = None }
 
 -- the turn at an ask: a known reply is given, a bound is taken to be exceeded, and a need in full ends the look ahead
-abbrev pub turn_of : Ask → Verdict → Turn
+abbrev pub turn_of : Ask → Verdict → AheadTurn
 turn_of ask (Replied r) = record { runs = []; reply = Some r }
 turn_of (Full θ n) (Need place cutoff) = ends (run_of θ place cutoff.0 ∷ runs_after θ cutoff.0 place n)
 turn_of (Versus θ n bound) (Need place cutoff) = record { runs = run_of θ place cutoff.0 ∷ []; reply = Some Exceeds }
 turn_of ask verdict = ends []
 
 -- the runs of a turn, and those after the reply that it ends with
-abbrev pub followed_by : Turn → (Reply → List Wish) → List Wish
+abbrev pub followed_by : AheadTurn → (Reply → List Wish) → List Wish
 followed_by turn after = turn.runs ++ (elim turn.reply [ None ↦ [] | Some r ↦ after r ])
 
 module _ (shown : List Reply → View) (limits : Bounds) (known : Knowledge) where
@@ -49,7 +49,7 @@ module _ (shown : List Reply → View) (limits : Bounds) (known : Knowledge) whe
   verdict_after replies = verdict_of limits known (shown replies).ask
 
   -- the turn after these replies
-  abbrev pub turn_after : List Reply → Turn
+  abbrev pub turn_after : List Reply → AheadTurn
   turn_after replies = turn_of (shown replies).ask (verdict_after replies)
 
   -- the runs of at most so many turns after these replies
@@ -59,8 +59,7 @@ module _ (shown : List Reply → View) (limits : Bounds) (known : Knowledge) whe
 
   -- the wishes beside a needed cell: at most k of these runs
   abbrev pub wishes_beside : Settings → ℕ → List Wish → ℕ → List Wish
-  wishes_beside config place runs k =
-      (with_runs known (record { needed = record { config = config; place = place }; most = k; wishes = [] }) runs).wishes
+  wishes_beside config place runs k = (with_runs known (none_yet k config place) runs).wishes
 
   -- the wishes at an ask: its later places, but at one with a bound first what comes should it be exceeded
   unfoldable pub wishes_at : List Reply → Ask → Verdict → ℕ → List Wish

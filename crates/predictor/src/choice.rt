@@ -1,9 +1,8 @@
 //! Wishes in the making.
-ghost use Rattle.std.specs.Prelude.{◌≡◌, [], IfOk, OnOk, if◌then◌else◌};
-ghost use Rattle.run_cache.specs.Knowledge;
+ghost use Rattle.std.specs.Prelude.{◌≡◌, IfOk, OnOk};
 ghost use Rattle.run_cache.specs.Caches.{known_in};
 ghost use Rattle.predictor.specs.Choices as choices;
-ghost use Rattle.predictor.specs.Choices.{run_of, with_wish, with_runs};
+ghost use Rattle.predictor.specs.Choices.{run_of, none_yet, with_wish, with_unsettled, with_runs};
 ghost use Rattle.predictor.specs.Wishes.{runs_after};
 
 use crate::wish::Wish;
@@ -37,7 +36,7 @@ impl Choice {
         place: u32,
         most: u32,
     ) -> Result<Choice, Memory>
-        ensures { IfOk result (λ c. c ≡ record { needed = record { config = config.now; place = place }; most = most; wishes = [] }) }
+        ensures { IfOk result (λ c. c ≡ none_yet most config.now place) }
     {
         Ok(Choice {
             needed: Cell::at(config, place)?,
@@ -93,7 +92,7 @@ impl Choice {
         place: u32,
         cutoff: Micros,
     ) -> Result<(), Memory>
-        ensures { OnOk result (self.new ≡ (if Knowledge.is_settled known cutoff.0 then self.old else with_wish self.old (run_of config.now place cutoff.0))) }
+        ensures { OnOk result (self.new ≡ with_unsettled known self.old (run_of config.now place cutoff.0)) }
     {
         if known.is_settled(cutoff) {
             return Ok(());
@@ -111,7 +110,8 @@ impl Choice {
         last: u32,
         cutoff: Micros,
     ) -> Result<(), Memory>
-        ensures { OnOk result (self.new ≡ with_runs (known_in cache.now) self.old (runs_after config.now cutoff.0 place last)) }
+        ensures { let runs = runs_after config.now cutoff.0 place last in
+            OnOk result (self.new ≡ with_runs (known_in cache.now) self.old runs) }
     {
         let row = cache.row(config);
         for done in place..last {

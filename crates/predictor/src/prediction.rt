@@ -1,15 +1,16 @@
 //! What a search may need next.
 ghost use Rattle.std.specs.Prelude.{◌≡◌, ◌≤◌, ◌++◌, ◌∷◌, [], All, length, IfOk, OnOk, IfSome, IsSomeAnd};
 ghost use Rattle.objective.specs.Limits.{max_runs};
+ghost use Rattle.ils_face.specs.PresentViews.{view_of};
 ghost use Rattle.ils_face.specs.Replies.{Fits};
 ghost use Rattle.ils_face.specs.Traces.{question_of};
 ghost use Rattle.run_cache.specs.Caches.{known_in};
-ghost use Rattle.capping.specs.Verdicts.{verdict_of};
 ghost use Rattle.capping.specs.Decisions.{place_count, IsNeeded};
 ghost use Rattle.capping.specs.declared.verdicts.Verdict.TheVariants.{Need};
 ghost use Rattle.predictor.specs.Choices.{with_runs};
-ghost use Rattle.predictor.specs.Wishes.{turn_of, runs_ahead, wishes_at, wishes_of};
-ghost use Rattle.predictor.specs.Promises.{needed_after, IsWish, TellsMore, AreApart};
+ghost use Rattle.predictor.specs.Wishes.{turn_of};
+ghost use Rattle.predictor.specs.Promises.{IsWish, TellsMore, AreApart};
+ghost use Rattle.predictor.specs.SearchWishes.{turn_by, found_ahead, wishes_on, wishes_now, needed_now};
 
 use crate::choice::Choice;
 use crate::wish::Wish;
@@ -32,7 +33,8 @@ fn add_needed(
     cutoff: Micros,
 ) -> Result<Option<Reply>, Memory>
     requires { IsSomeAnd (question_of ask.now) (IsNeeded cache.now.limits (known_in cache.now) place cutoff.0) }
-    ensures runs { OnOk result (choice.new ≡ with_runs (known_in cache.now) choice.old (turn_of ask.now (Need place cutoff)).runs) }
+    ensures runs { let turn = turn_of ask.now (Need place cutoff) in
+        OnOk result (choice.new ≡ with_runs (known_in cache.now) choice.old turn.runs) }
     ensures reply { IfOk result (λ r. r ≡ (turn_of ask.now (Need place cutoff)).reply) }
     ensures fits { IfOk result (λ r. IfSome r (Fits ask.now)) }
 {
@@ -54,8 +56,9 @@ fn add_needed(
 /// by, unless the turn is the last.
 fn add_turn(choice: &mut Choice, cache: &Cache, ask: &Ask) -> Result<Option<Reply>, Memory>
     requires { place_count ask.now ≤ max_runs }
-    ensures runs { OnOk result (choice.new ≡ with_runs (known_in cache.now) choice.old (turn_of ask.now (verdict_of cache.now.limits (known_in cache.now) ask.now)).runs) }
-    ensures reply { IfOk result (λ r. r ≡ (turn_of ask.now (verdict_of cache.now.limits (known_in cache.now) ask.now)).reply) }
+    ensures runs { let turn = turn_by cache.now ask.now in
+        OnOk result (choice.new ≡ with_runs (known_in cache.now) choice.old turn.runs) }
+    ensures reply { IfOk result (λ r. r ≡ (turn_by cache.now ask.now).reply) }
     ensures fits { IfOk result (λ r. IfSome r (Fits ask.now)) }
 {
     match decide(cache, ask) {
@@ -67,7 +70,8 @@ fn add_turn(choice: &mut Choice, cache: &Cache, ask: &Ask) -> Result<Option<Repl
 
 /// Adds the runs of at most `TURNS` turns from the present ask on, while there is room.
 fn add_turns<P: Search>(choice: &mut Choice, cache: &Cache, ahead: &mut P) -> Result<(), Memory>
-    ensures { OnOk result (choice.new ≡ with_runs (known_in cache.now) choice.old (runs_ahead (P.shown (P.rules_of ahead.old)) cache.now.limits (known_in cache.now) 256 (P.replies_of ahead.old))) }
+    ensures { let runs = found_ahead P.Search ahead.old cache.now (P.replies_of ahead.old) in
+        OnOk result (choice.new ≡ with_runs (known_in cache.now) choice.old runs) }
 {
     for _turn in 0..TURNS {
         let Some(reply) = add_turn(choice, cache, ahead.ask())? else {
@@ -84,8 +88,9 @@ fn add_turns<P: Search>(choice: &mut Choice, cache: &Cache, ahead: &mut P) -> Re
 /// Adds the runs that come should the bound of the present ask be exceeded. Makes one copy of
 /// the search.
 fn look_ahead<P: Search>(choice: &mut Choice, cache: &Cache, search: &P) -> Result<(), Memory>
-    requires { Fits (P.shown (P.rules_of search.now) (P.replies_of search.now)).ask Reply.Exceeds }
-    ensures { OnOk result (choice.new ≡ with_runs (known_in cache.now) choice.old (runs_ahead (P.shown (P.rules_of search.now)) cache.now.limits (known_in cache.now) 256 (P.replies_of search.now ++ Reply.Exceeds ∷ []))) }
+    requires { Fits (view_of P.Search search.now).ask Reply.Exceeds }
+    ensures { let runs = found_ahead P.Search search.now cache.now (P.replies_of search.now ++ Reply.Exceeds ∷ []) in
+        OnOk result (choice.new ≡ with_runs (known_in cache.now) choice.old runs) }
 {
     let mut ahead = search.copy()?;
     ahead.answer(Reply::Exceeds)?;
@@ -100,9 +105,9 @@ fn wishes_for<P: Search>(
     ask: &Ask,
     k: u32,
 ) -> Result<Vec<Wish>, Memory>
-    requires present { ask.now ≡ (P.shown (P.rules_of search.now) (P.replies_of search.now)).ask }
+    requires present { ask.now ≡ (view_of P.Search search.now).ask }
     requires places { place_count ask.now ≤ max_runs }
-    ensures { IfOk result (λ w. w.items ≡ wishes_at (P.shown (P.rules_of search.now)) cache.now.limits (known_in cache.now) (P.replies_of search.now) ask.now (verdict_of cache.now.limits (known_in cache.now) ask.now) k) }
+    ensures { IfOk result (λ w. w.items ≡ wishes_on P.Search search.now cache.now ask.now k) }
 {
     let Verdict::Need { place, cutoff } = decide(cache, ask) else {
         return Ok(Vec::new(alloc));
@@ -138,9 +143,10 @@ pub fn wishes<P: Search>(
     cache: &Cache,
     k: u32,
 ) -> Result<Vec<Wish>, Memory>
-    ensures value { IfOk result (λ w. w.items ≡ wishes_of (P.shown (P.rules_of search.now)) cache.now.limits (known_in cache.now) (P.replies_of search.now) k) }
+    ensures value { IfOk result (λ w. w.items ≡ wishes_now P.Search search.now cache.now k) }
     ensures each { IfOk result (λ w. All (IsWish (P.rules_of search.now) cache.now.limits) w.items) }
-    ensures more { IfOk result (λ w. All (TellsMore (known_in cache.now) (needed_after (P.shown (P.rules_of search.now)) cache.now.limits (known_in cache.now) (P.replies_of search.now))) w.items) }
+    ensures more { let needed = needed_now P.Search search.now cache.now in
+        IfOk result (λ w. All (TellsMore (known_in cache.now) needed) w.items) }
     ensures apart { IfOk result (λ w. AreApart w.items) }
     ensures few { IfOk result (λ w. length w.items ≤ k) }
 {
