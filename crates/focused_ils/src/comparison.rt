@@ -197,7 +197,8 @@ impl Comparison {
     /// Whether this cost makes a new incumbent.
     pub fn is_better(&self, sum: Sum) -> bool
         requires { IsAsking self.now }
-        ensures { let asked = asked_in self.now in result ≡ state.is_better self.now.last asked.config asked.places sum.0 }
+        ensures { let asked = asked_in self.now in
+            result ≡ state.is_better self.now.last asked.config asked.places sum.0 }
     {
         let asked = self.asked();
         let same = same_values(asked.config().values(), self.incumbent.config().values());
@@ -222,7 +223,8 @@ impl Comparison {
     /// A configuration that was evaluated with this cost becomes the incumbent.
     pub fn renew(&mut self, config: Config, sum: Sum)
         requires { IsAsking self.old }
-        ensures { self.new ≡ record self.old { last = state.entry self.old.last config (asked_in self.old).places sum.0 } }
+        ensures { let places = (asked_in self.old).places in
+            self.new ≡ record self.old { last = state.entry self.old.last config places sum.0 } }
     {
         let places = self.asked().places();
         self.incumbent = OpenAsk::new(config, places);
@@ -254,7 +256,8 @@ impl Comparison {
         more: u32,
         compared: u32,
     )
-        ensures { let turn : Turn = record { first_is_low = first_is_low; low = low; high = high; places = places; more = more } in
+        ensures { let turn : Turn =
+            record { first_is_low = first_is_low; low = low; high = high; places = places; more = more } in
             self.new ≡ record { last = record self.old.last { compared = compared }; phase = High turn } }
     {
         self.compared = compared;
