@@ -267,9 +267,9 @@ module _ (shown : List Reply → View) (sums other : Sums) (run whole : Run)
 
       at_either : AreKnown sums whole.asks (length whole.asks) ⊎ ((k : ℕ) × IsFirstUnknown sums whole.asks k)
           → MeetsAborts sums run whole
-      at_either (inl known) = Aborts.same known (all_same known)
+      at_either (inl known) = ProcedureAborts.same known (all_same known)
       at_either (inr found) =
-          Aborts.cut found.0 found.1 (at_first found.0 found.1.before (slice_get whole.asks found.0) refl found.1.unknown)
+          ProcedureAborts.cut found.0 found.1 (at_first found.0 found.1.before (slice_get whole.asks found.0) refl found.1.unknown)
 
 -- the law: the runs over a table and over the same table with each abort as unsolved
 pub aborts_met : (shown : List Reply → View) (rules : Rules) (T : Table) (run whole : Run)

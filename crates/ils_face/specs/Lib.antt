@@ -2,6 +2,7 @@ pub mod Rules
 pub mod Replies
 pub mod Setups
 pub mod Views
+pub mod PresentViews
 pub mod Trajectories
 pub mod Steady
 pub mod Follows
