@@ -9,6 +9,7 @@ use Rattle.objective.specs.Costs.{Table}
 use Rattle.objective.specs.declared.Answer.{Answer}
 use Rattle.objective.specs.Bounds.{Bounds}
 use Rattle.objective.specs.declared.Micros.{Micros}
+use Rattle.uncapped.specs.Procedure.{Question}
 use Rattle.ils_face.specs.declared.asks.Ask.{Ask}
 use Rattle.ils_face.specs.declared.asks.Ask.TheVariants.{Full, Versus, End}
 use Rattle.ils_face.specs.declared.asks.Reply.{Reply}
@@ -37,11 +38,16 @@ use Rattle.board_steps.specs.Problem.{Problem}
 use Rattle.board_steps.specs.Replays.{replay}
 use Rattle.board_steps.specs.Steps.{same_wish, with_ticket, known_from, with_answer, with_loss, with_kill, with_reply, with_wishes, with_abort, marked_board, stopped_board, resumed_board}
 use Rattle.board_steps.specs.Tickets.{mark_event, mark_events}
-use Rattle.board_steps.specs.BoardAborts.{IsNoAdvance, CameTo, IsAbortedAt, IsAborting, IsFirstAborting}
+use Rattle.board_steps.specs.BoardAborts.{IsNoAdvance, CameTo, IsAbortedAt, IsAborting}
 use Rattle.board_steps.proofs.GivenTickets.{verdict-open}
 use Rattle.board_steps.proofs.Replayed.{IsReplayed}
 
 -- ---- the present ask, where its walk comes to an abort
+
+-- the run of the cell is due at the question of its configuration and aborts, and none before it does
+pub record IsFirstAborting (limits : Bounds) (T : Table) (cell : Cell) (q : Question) : Type 0 where
+  pub config : q.config ≡ cell.config
+  pub first : IsFirstAbort limits T cell.place q
 
 -- the place of an ask is known as an abort
 record IsAbortOf (known : Knowledge) (ask : Ask) (place : ℕ) : Type 0 where
@@ -68,7 +74,7 @@ marks-no-advance p [] = All-nil IsNoAdvance
 marks-no-advance p (l ∷ live) = All-append IsNoAdvance (mark_event p l) (mark_events p live) (one (p l && not l.marked)) (marks-no-advance p live)
   where
     one : (to_mark : Bool) → All IsNoAdvance (if to_mark then Mark l.ticket.number ∷ [] else [])
-    one true = All-push IsNoAdvance [] (Mark l.ticket.number) (All-nil IsNoAdvance) tt
+    one true = All-push IsNoAdvance [] (Mark l.ticket.number) (All-nil IsNoAdvance) refl
     one false = All-nil IsNoAdvance
 
 -- one event that isn't an advance
@@ -176,24 +182,24 @@ module _ (shown : Rules → List Reply → View) where
   -- a ticket is taken
   pub aborting-ticket : (b : PlainBoard) (t : Ticket) → IsAborting shown b → IsAborting shown (with_ticket b t)
   unfolding verdict_on
-  aborting-ticket b t = aborting-still b (with_ticket b t) (take_event t ∷ []) refl refl refl refl (alone (take_event t) tt) (λ place e. e)
+  aborting-ticket b t = aborting-still b (with_ticket b t) (take_event t ∷ []) refl refl refl refl (alone (take_event t) refl) (λ place e. e)
 
   -- the answer of a live ticket is learnt
   pub aborting-answer : (b : PlainBoard) (answer : Answer) (l : LiveTicket) → IsAborting shown b → IsAborting shown (with_answer b answer l)
   unfolding verdict_on with_answer known_from
   aborting-answer b answer l =
-      aborting-still b (with_answer b answer l) (event.Record l.ticket.number answer ∷ []) refl refl refl refl (alone (event.Record l.ticket.number answer) tt)
+      aborting-still b (with_answer b answer l) (event.Record l.ticket.number answer ∷ []) refl refl refl refl (alone (event.Record l.ticket.number answer) refl)
       (abort-stays b.problem.rules.limits b.known l.ticket.cell l.ticket.run.cutoff.0 answer (ask_on shown b))
 
   -- the run of a live ticket can't be made
   pub aborting-loss : (b : PlainBoard) (l : LiveTicket) → IsAborting shown b → IsAborting shown (with_loss b l)
   unfolding verdict_on with_loss
-  aborting-loss b l = aborting-still b (with_loss b l) (event.Lost l.ticket.number ∷ []) refl refl refl refl (alone (event.Lost l.ticket.number) tt) (λ place e. e)
+  aborting-loss b l = aborting-still b (with_loss b l) (event.Lost l.ticket.number ∷ []) refl refl refl refl (alone (event.Lost l.ticket.number) refl) (λ place e. e)
 
   -- the run of a live ticket is given up
   pub aborting-kill : (b : PlainBoard) (l : LiveTicket) → IsAborting shown b → IsAborting shown (with_kill b l)
   unfolding verdict_on with_kill
-  aborting-kill b l = aborting-still b (with_kill b l) (event.Killed l.ticket.number ∷ []) refl refl refl refl (alone (event.Killed l.ticket.number) tt) (λ place e. e)
+  aborting-kill b l = aborting-still b (with_kill b l) (event.Killed l.ticket.number ∷ []) refl refl refl refl (alone (event.Killed l.ticket.number) refl) (λ place e. e)
 
   -- live tickets are marked
   pub aborting-marks : (b : PlainBoard) (p : LiveTicket → Bool) → IsAborting shown b → IsAborting shown (marked_board b p)
@@ -203,12 +209,12 @@ module _ (shown : Rules → List Reply → View) where
   -- a board is stopped
   pub aborting-stop : (b : PlainBoard) → IsAborting shown b → IsAborting shown (stopped_board b)
   unfolding verdict_on
-  aborting-stop b = aborting-still b (stopped_board b) (event.Stop ∷ []) refl refl refl refl (alone event.Stop tt) (λ place e. e)
+  aborting-stop b = aborting-still b (stopped_board b) (event.Stop ∷ []) refl refl refl refl (alone event.Stop refl) (λ place e. e)
 
   -- a board goes on without its live tickets
   pub aborting-resume : (b : PlainBoard) → IsAborting shown b → IsAborting shown (resumed_board b)
   unfolding verdict_on
-  aborting-resume b = aborting-still b (resumed_board b) (event.Resume ∷ []) refl refl refl refl (alone event.Resume tt) (λ place e. e)
+  aborting-resume b = aborting-still b (resumed_board b) (event.Resume ∷ []) refl refl refl refl (alone event.Resume refl) (λ place e. e)
 
   -- over a table with which what is known agrees, the run of the aborted cell is due at the present ask and aborts, and none before it does
   pub aborting-first : (b : PlainBoard) (T : Table) → ((config : List ℕ) (place : ℕ) → Agrees b.problem.rules.limits (b.known config place) (T config place))

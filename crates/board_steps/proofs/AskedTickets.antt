@@ -1,5 +1,5 @@
 -- The live tickets that were asked for: the verdict on the present ask needs their runs.
-use Rattle.std.proofs.Common.{ℕ, ◌≡◌, ◌≤◌, ◌+◌, ◌++◌, ◌⊎◌, Bool, true, false, List, [], ◌∷◌, Some, All, length, refl, sym, ap, ◌∙◌, inl, inr, subst, if◌then◌else◌}
+use Rattle.std.proofs.Common.{ℕ, ◌≡◌, ◌≤◌, ◌++◌, ◌⊎◌, Bool, true, false, List, [], ◌∷◌, Some, All, length, refl, sym, ap, ◌∙◌, inl, inr, subst, if◌then◌else◌}
 use Rattle.std.specs.Prelude.{IfSome}
 use Rattle.std.specs.Cmp.Lexicographic.{pointwise}
 use Rattle.std.specs.List.{count_by}

@@ -44,7 +44,7 @@ use Rattle.board_steps.specs.Tickets.{mark_event, mark_events}
 use Rattle.board_steps.specs.AgreeingBoards.{IsAgreeing}
 use Rattle.board_steps.specs.JournalRuns.{run_of}
 use Rattle.board_steps.specs.RepliedAsks.{quiet_by, AreReplied}
-use Rattle.board_steps.specs.DueTickets.{IsDueTake, place_taken, places_taken, AreInOrder, AreDueTickets}
+use Rattle.board_steps.specs.DueTickets.{IsDueTake, ask_taken, asks_taken, AreInOrder, AreDueTickets}
 use Rattle.board_steps.proofs.GivenTickets.{verdict-open, IsNeededTicket, IsAheadTicket, given}
 use Rattle.board_steps.proofs.Ranges.{flat_map-push, flat_map-push_none}
 use Rattle.board_steps.proofs.RepliedAsks.{ended-walk, present-ask}
@@ -58,25 +58,25 @@ order-opening replies = record { rising = IsNonDecreasingBy-short (λ place. pla
 order-later : (replies more : ℕ) (journal : List Event) → replies ≤ more → AreInOrder replies journal → AreInOrder more journal
 order-later replies more journal least o = record {
   rising = o.rising;
-  within = All-weaker (λ place. place ≤ replies) (λ place. place ≤ more) (λ place low. omega (arith, low, least)) (places_taken journal) o.within;
+  within = All-weaker (λ place. place ≤ replies) (λ place. place ≤ more) (λ place low. omega (arith, low, least)) (asks_taken journal) o.within;
 }
 
 -- one more event that takes no ticket
-order-other : (replies : ℕ) (journal : List Event) (e : Event) → place_taken e ≡ [] → AreInOrder replies journal → AreInOrder replies (journal ++ e ∷ [])
+order-other : (replies : ℕ) (journal : List Event) (e : Event) → ask_taken e ≡ [] → AreInOrder replies journal → AreInOrder replies (journal ++ e ∷ [])
 order-other replies journal e none o = record {
-  rising = rw (flat_map-push_none place_taken journal e none) o.rising;
-  within = rw (flat_map-push_none place_taken journal e none) o.within;
+  rising = rw (flat_map-push_none ask_taken journal e none) o.rising;
+  within = rw (flat_map-push_none ask_taken journal e none) o.within;
 }
 
 -- one more ticket
 order-take : (replies : ℕ) (journal : List Event) (t : Ticket) → t.place ≡ replies → AreInOrder replies journal → AreInOrder replies (journal ++ take_event t ∷ [])
 order-take replies journal t now o =
-    let places = places_taken journal in
+    let places = asks_taken journal in
     let last : (d : ℕ) → 0 < length places → get_or places (length places - 1) d ≤ t.place = λ d some.
     let low = All-get_or (λ place. place ≤ replies) places (length places - 1) d (omega (arith, some)) o.within in omega (arith, low, now) in
     record {
-      rising = rw (flat_map-push place_taken journal (take_event t)) (IsNonDecreasingBy-push (λ place. place) places t.place o.rising last);
-      within = rw (flat_map-push place_taken journal (take_event t)) (All-push (λ place. place ≤ replies) places t.place o.within (omega (arith, now)));
+      rising = rw (flat_map-push ask_taken journal (take_event t)) (IsNonDecreasingBy-push (λ place. place) places t.place o.rising last);
+      within = rw (flat_map-push ask_taken journal (take_event t)) (All-push (λ place. place ≤ replies) places t.place o.within (omega (arith, now)));
     }
 
 -- ---- a run that is needed
@@ -228,15 +228,15 @@ module _ (procedure : Rules → Table → Run) (truth : Option (Key → Outcome)
 -- ---- a ticket that was taken
 
 -- what holds of the places of all tickets holds of those of each event
-each-event : (P : ℕ → Type 0) (journal : List Event) → All P (places_taken journal) → All (λ e. All P (place_taken e)) journal
-each-event P [] all = All-nil (λ e. All P (place_taken e))
+each-event : (P : ℕ → Type 0) (journal : List Event) → All P (asks_taken journal) → All (λ e. All P (ask_taken e)) journal
+each-event P [] all = All-nil (λ e. All P (ask_taken e))
 each-event P (e ∷ journal) all =
-    let whole = place_taken e ++ places_taken journal in
-    let here : All P (place_taken e) = All-weaker (Contains (place_taken e)) P
-    (λ place among. All-contains P whole place all (Contains-append_left (place_taken e) (places_taken journal) place among)) (place_taken e) (All-contains_itself (place_taken e)) in
-    let rest : All P (places_taken journal) = All-weaker (Contains (places_taken journal)) P
-    (λ place among. All-contains P whole place all (Contains-append_right (place_taken e) (places_taken journal) place among)) (places_taken journal) (All-contains_itself (places_taken journal)) in
-    All-cons (λ e. All P (place_taken e)) e journal here (each-event P journal rest)
+    let whole = ask_taken e ++ asks_taken journal in
+    let here : All P (ask_taken e) = All-weaker (Contains (ask_taken e)) P
+    (λ place among. All-contains P whole place all (Contains-append_left (ask_taken e) (asks_taken journal) place among)) (ask_taken e) (All-contains_itself (ask_taken e)) in
+    let rest : All P (asks_taken journal) = All-weaker (Contains (asks_taken journal)) P
+    (λ place among. All-contains P whole place all (Contains-append_right (ask_taken e) (asks_taken journal) place among)) (asks_taken journal) (All-contains_itself (asks_taken journal)) in
+    All-cons (λ e. All P (ask_taken e)) e journal here (each-event P journal rest)
 
 module _ (procedure : Rules → Table → Run) (truth : Option (Key → Outcome)) where
   -- the ask of an asked ticket that was taken: its run is due there, whatever it answers
@@ -255,5 +255,5 @@ module _ (procedure : Rules → Table → Run) (truth : Option (Key → Outcome)
   pub place-taken : (b : PlainBoard) (t : Ticket) → Contains b.journal (take_event t) → AreDueTickets procedure truth b → t.place ≤ length b.replies
   place-taken b t among d =
       let P : ℕ → Type 0 = λ place. place ≤ length b.replies in
-      let each : All P (t.place ∷ []) = All-contains (λ e. All P (place_taken e)) b.journal (take_event t) (each-event P b.journal d.order.within) among in
+      let each : All P (t.place ∷ []) = All-contains (λ e. All P (ask_taken e)) b.journal (take_event t) (each-event P b.journal d.order.within) among in
       All-head P t.place [] each

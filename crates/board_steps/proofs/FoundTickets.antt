@@ -5,7 +5,7 @@ use Rattle.std.proofs.lemmas.List.Folds.{find_at}
 use Rattle.std.proofs.lemmas.Option.{slice_get_read, slice_get_past, slice_get_cases}
 use Rattle.board_steps.specs.declared.tickets.LiveTicket.{LiveTicket}
 use Rattle.board_steps.specs.declared.tickets.Ticket.{Ticket}
-use Rattle.board_steps.specs.Tickets.{same_ticket, has_number, place_of, found_in}
+use Rattle.board_steps.specs.Tickets.{same_ticket, has_number, position_of, found_in}
 
 -- the element at the first place that passes is found
 pub find_here : {X : Type 0} (p : X → Bool) (xs : List X) (x : X) → position_or_len p xs < length xs → x ≡ get_or xs (position_or_len p xs) x
@@ -24,24 +24,24 @@ is_found p xs some = elim (slice_get_cases xs (position_or_len p xs)).1 [
 ]
 
 -- the live ticket at the place of the number, where it is of the ticket
-pub found_same : (live : List LiveTicket) (t : Ticket) (i : ℕ) (l : LiveTicket) → i ≡ place_of live t.number → i < length live → l ≡ get_or live i l
+pub found_same : (live : List LiveTicket) (t : Ticket) (i : ℕ) (l : LiveTicket) → i ≡ position_of live t.number → i < length live → l ≡ get_or live i l
     → same_ticket l.ticket t ≡ true → Some l ≡ found_in live t
 unfolding found_in
 found_same live t i l place within is same =
-    let at : l ≡ get_or live (place_of live t.number) l = is ∙ ap (λ n. get_or live n l) place in
+    let at : l ≡ get_or live (position_of live t.number) l = is ∙ ap (λ n. get_or live n l) place in
     let found = find_here (has_number t.number) live l (omega (arith, place, within)) at in
     rw (found, same) refl
 
 -- the live ticket at the place of the number isn't of the ticket
-pub found_other : (live : List LiveTicket) (t : Ticket) (i : ℕ) (l : LiveTicket) → i ≡ place_of live t.number → i < length live → l ≡ get_or live i l
+pub found_other : (live : List LiveTicket) (t : Ticket) (i : ℕ) (l : LiveTicket) → i ≡ position_of live t.number → i < length live → l ≡ get_or live i l
     → same_ticket l.ticket t ≡ false → None ≡ found_in live t
 unfolding found_in
 found_other live t i l place within is other =
-    let at : l ≡ get_or live (place_of live t.number) l = is ∙ ap (λ n. get_or live n l) place in
+    let at : l ≡ get_or live (position_of live t.number) l = is ∙ ap (λ n. get_or live n l) place in
     let found = find_here (has_number t.number) live l (omega (arith, place, within)) at in
     rw (found, other) refl
 
 -- the number has no place
-pub found_none : (live : List LiveTicket) (t : Ticket) → length live ≤ place_of live t.number → None ≡ found_in live t
+pub found_none : (live : List LiveTicket) (t : Ticket) → length live ≤ position_of live t.number → None ≡ found_in live t
 unfolding found_in
 found_none live t past = rw (find_past (has_number t.number) live past) refl

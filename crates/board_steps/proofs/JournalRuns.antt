@@ -21,7 +21,7 @@ use Rattle.board_steps.specs.Numbering.{IsTicket, AreNumbered, numbers_taken, ti
 use Rattle.board_steps.specs.BoardVerdicts.{wishes_on}
 use Rattle.board_steps.specs.Problem.{Problem}
 use Rattle.board_steps.specs.Steps.{with_ticket, with_answer, with_loss, with_kill, with_reply, with_wishes, with_abort, same_wish, marked_board, stopped_board, resumed_board}
-use Rattle.board_steps.specs.Tickets.{has_number, live_at, place_of, without, mark_event, mark_events}
+use Rattle.board_steps.specs.Tickets.{has_number, live_at, position_of, without, mark_event, mark_events}
 use Rattle.board_steps.specs.JournalRuns.{takes, run_taken, recorded_in, runs_after, runs_of, run_of, IsTakenIn, AreTaken}
 use Rattle.board_steps.proofs.LiveTickets.{tickets-marked, tickets-marked_if, tickets-push, all-without}
 use Rattle.board_steps.proofs.Ranges.{range-below, lower-differs}
@@ -61,7 +61,7 @@ runs-marks journal p (l ∷ live) =
 -- a live ticket has what all tickets have
 pub of-live : (P : Ticket → Type 0) (live : List LiveTicket) (l : LiveTicket) → live_at live l.ticket.number ≡ Some l → All P (tickets_of live) → P l.ticket
 of-live P live l found all =
-    let i = place_of live l.ticket.number in
+    let i = position_of live l.ticket.number in
     let at : ◌≡◌ {A = Option LiveTicket} (slice_get live i) (Some l) = sym (find_at (has_number l.ticket.number) live) ∙ found in
     let within = slice_get_within live i l at in
     let ticket : get_or (tickets_of live) i l.ticket ≡ l.ticket = get_or-map (λ k. k.ticket) live i l l.ticket within ∙ ap (λ k. k.ticket) (get_or_from_slice_get live i l l at) in

@@ -32,8 +32,9 @@ use Rattle.board_steps.specs.Problem.{Problem}
 use Rattle.board_steps.specs.ProblemRuns.{key_of}
 use Rattle.board_steps.specs.Replays.{replay}
 use Rattle.board_steps.specs.Steps.{taken_on, with_ticket, known_from, is_conflict, with_answer, with_loss, with_kill, with_reply, with_wishes, with_abort, same_wish, marked_board, stopped_board, resumed_board}
-use Rattle.board_steps.specs.Tickets.{live_at, place_of, without, marked, marked_if, mark_events, has_ticket}
-use Rattle.board_steps.proofs.KeptParts.{IsTold, HasParts, parts-opening, parts-reply, parts-wishes, parts-abort, parts-ticket, parts-answer, parts-loss, parts-kill, parts-marks, parts-stop, parts-resume}
+use Rattle.board_steps.specs.Tickets.{live_at, position_of, without, marked, marked_if, mark_events, has_ticket}
+use Rattle.board_steps.specs.AgreeingBoards.{IsTold}
+use Rattle.board_steps.proofs.KeptParts.{HasParts, parts-opening, parts-reply, parts-wishes, parts-abort, parts-ticket, parts-answer, parts-loss, parts-kill, parts-marks, parts-stop, parts-resume}
 use Rattle.board_steps.proofs.LiveTickets.{tickets-marked, tickets-marked_if, tickets-push, none-of-cell, numbered-without, all-without, numbered-marks}
 use Rattle.board_steps.proofs.MarkedTickets.{HaveOwnNumbers, replayed-marks}
 use Rattle.board_steps.proofs.Numbered.{numbered-other, numbered-none, numbered-take, all-remove}
@@ -47,7 +48,7 @@ nothing-known (suc before) = refl
 -- all live tickets but one
 live-without : (P : LiveTicket → Type 0) (live : List LiveTicket) (number : ℕ) → All P live → All P (without live number)
 unfolding without
-live-without P live number all = all-remove P live (place_of live number) all
+live-without P live number all = all-remove P live (position_of live number) all
 
 -- every ticket of marked ones is marked
 all-marked : (live : List LiveTicket) → All (λ l. l.marked ≡ true) (map marked live)

@@ -1,6 +1,6 @@
 -- What each change keeps of the parts of a board's invariant that are over the plain board.
 use Rattle.std.proofs.Common.{ℕ, ◌≡◌, List, Option, Some, IsSome, Bool}
-use Rattle.objective.specs.Costs.{Table, IsWithin, seen}
+use Rattle.objective.specs.Costs.{Table, IsWithin}
 use Rattle.objective.specs.declared.Answer.{Answer}
 use Rattle.objective.specs.declared.Micros.{Micros}
 use Rattle.objective.specs.declared.Outcome.{Outcome}
@@ -28,6 +28,7 @@ use Rattle.board_steps.specs.Steps.{taken_on, with_ticket, with_answer, with_los
 use Rattle.board_steps.specs.SummedReplies.{AreSummed}
 use Rattle.board_steps.specs.Tickets.{live_at}
 use Rattle.board_steps.proofs.AbortedBoards.{aborting-opening, aborting-reply, aborting-wishes, aborting-abort, aborting-ticket, aborting-answer, aborting-loss, aborting-kill, aborting-marks, aborting-stop, aborting-resume}
+use Rattle.board_steps.specs.AgreeingBoards.{IsTold}
 use Rattle.board_steps.proofs.AgreeingBoards.{told-answer}
 use Rattle.board_steps.proofs.AskedTickets.{asked-opening, asked-reply, asked-wishes, asked-abort, asked-ticket, asked-answer, asked-loss, asked-kill, asked-marks, asked-stop, asked-resume}
 use Rattle.board_steps.proofs.JournalRuns.{taken-opening, taken-reply, taken-wishes, taken-abort, taken-ticket, taken-answer, taken-loss, taken-kill, taken-marks, taken-stop, taken-resume}
@@ -36,10 +37,6 @@ use Rattle.board_steps.proofs.Replayed.{IsReplayed}
 use Rattle.board_steps.proofs.RisingBoards.{rising-opening, rising-reply, rising-wishes, rising-abort, rising-ticket, rising-answer, rising-loss, rising-kill, rising-marks, rising-stop, rising-resume}
 use Rattle.board_steps.proofs.SummedReplies.{sums-opening, sums-reply, sums-wishes, sums-abort, sums-ticket, sums-answer, sums-loss, sums-kill, sums-marks, sums-stop, sums-resume}
 use Rattle.board_steps.proofs.TruthfulBoards.{IsTruthful, truthful-opening, truthful-reply, truthful-wishes, truthful-abort, truthful-ticket, truthful-answer, truthful-loss, truthful-kill, truthful-marks, truthful-stop, truthful-resume}
-
--- where a truth is told, the answer is what it shows of the ticket's run
-abbrev pub IsTold : Option (Key → Outcome) → Ticket → Answer → Type 0
-IsTold truth t answer = (outcome : Key → Outcome) → truth ≡ Some outcome → answer ≡ seen (outcome t.run.key) t.run.cutoff.0
 
 module _ (shown : Rules → List Reply → View) (procedure : Rules → Table → Run) (truth : Option (Key → Outcome)) where
   -- the parts of a board's invariant that are over the plain board

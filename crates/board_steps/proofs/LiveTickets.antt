@@ -15,7 +15,7 @@ use Rattle.board_steps.specs.declared.tickets.Ticket.{Ticket}
 use Rattle.board_steps.specs.Ledgers.{unmarked}
 use Rattle.board_steps.specs.Numbering.{number_taken, number_ended, IsRunnableTake, AreNumbered, tickets_of}
 use Rattle.board_steps.specs.Problem.{Problem}
-use Rattle.board_steps.specs.Tickets.{same_cell, same_ticket, has_number, live_at, place_of, without, if_same, found_in, marked, marked_if, mark_event, mark_events, has_ticket}
+use Rattle.board_steps.specs.Tickets.{same_cell, same_ticket, has_number, live_at, position_of, without, if_same, found_in, marked, marked_if, mark_event, mark_events, has_ticket}
 use Rattle.board_steps.proofs.SameCells.{same_cell-Decides}
 use Rattle.board_steps.proofs.Numbered.{numbered-other, numbered-end, all-remove}
 
@@ -39,20 +39,20 @@ pub tickets-push : (live : List LiveTicket) (t : Ticket) → tickets_of (live ++
 tickets-push live t = map-append (λ l. l.ticket) live (unmarked t ∷ [])
 
 -- the tickets without the one with a number
-pub tickets-without : (live : List LiveTicket) (number : ℕ) → tickets_of (without live number) ≡ remove (tickets_of live) (place_of live number)
+pub tickets-without : (live : List LiveTicket) (number : ℕ) → tickets_of (without live number) ≡ remove (tickets_of live) (position_of live number)
 unfolding without
 tickets-without live number =
-    let i = place_of live number in
+    let i = position_of live number in
     map-append (λ l. l.ticket) (take i live) (drop (suc i) live)
     ∙ (λ j. sym (take-map (λ l. l.ticket) i live) j ++ sym (drop-map (λ l. l.ticket) (suc i) live) j)
 
 -- a live ticket that is found is the one with its number
 pub found-number : (live : List LiveTicket) (number : ℕ) (l : LiveTicket) → live_at live number ≡ Some l → l.ticket.number ≡ number
 found-number live number l found =
-    let at : ◌≡◌ {A = Option LiveTicket} (slice_get live (place_of live number)) (Some l) = sym (find_at (has_number number) live) ∙ found in
-    let within = slice_get_within live (place_of live number) l at in
+    let at : ◌≡◌ {A = Option LiveTicket} (slice_get live (position_of live number)) (Some l) = sym (find_at (has_number number) live) ∙ found in
+    let within = slice_get_within live (position_of live number) l at in
     let passes = passes_at_first (has_number number) live l within in
-    eqb-true l.ticket.number number (ap (has_number number) (sym (get_or_from_slice_get live (place_of live number) l l at)) ∙ passes)
+    eqb-true l.ticket.number number (ap (has_number number) (sym (get_or_from_slice_get live (position_of live number) l l at)) ∙ passes)
 
 -- what is found for a ticket is the live ticket with its own number
 found-same : (t : Ticket) (o : Option LiveTicket) (l : LiveTicket) → if_same t o ≡ Some l → o ≡ Some l
@@ -98,7 +98,7 @@ none-counted p (x ∷ xs) none =
 pub others-apart : (live : List LiveTicket) (l : LiveTicket) → live_at live l.ticket.number ≡ Some l → count_by (λ t. same_cell l.ticket.cell t.cell) (tickets_of live) ≤ 1
     → All (λ t. same_cell l.ticket.cell t.cell ≡ false) (tickets_of (without live l.ticket.number))
 others-apart live l found once =
-    let i = place_of live l.ticket.number in
+    let i = position_of live l.ticket.number in
     let at : ◌≡◌ {A = Option LiveTicket} (slice_get live i) (Some l) = sym (find_at (has_number l.ticket.number) live) ∙ found in
     let within = slice_get_within live i l at in
     let inside : i < length (tickets_of live) = omega (arith, within, length-map live (λ k. k.ticket)) in
@@ -113,7 +113,7 @@ pub numbered-without : (problem : Problem) (live : List LiveTicket) (next : ℕ)
     → live_at live l.ticket.number ≡ Some l → number_taken e ≡ [] → number_ended e ≡ l.ticket.number ∷ [] → IsRunnableTake problem.rules e
     → AreNumbered problem (tickets_of live) next journal → AreNumbered problem (tickets_of (without live l.ticket.number)) next (journal ++ e ∷ [])
 numbered-without problem live next journal l e found none_taken one_ended runnable n =
-    let i = place_of live l.ticket.number in
+    let i = position_of live l.ticket.number in
     let at : ◌≡◌ {A = Option LiveTicket} (slice_get live i) (Some l) = sym (find_at (has_number l.ticket.number) live) ∙ found in
     let within = slice_get_within live i l at in
     let ticket : get_or (tickets_of live) i l.ticket ≡ l.ticket = get_or-map (λ k. k.ticket) live i l l.ticket within ∙ ap (λ k. k.ticket) (get_or_from_slice_get live i l l at) in
@@ -121,7 +121,7 @@ numbered-without problem live next journal l e found none_taken one_ended runnab
 
 -- all of the live tickets without one
 pub all-without : (P : Ticket → Type 0) (live : List LiveTicket) (number : ℕ) → All P (tickets_of live) → All P (tickets_of (without live number))
-all-without P live number all = rw (tickets-without live number) (all-remove P (tickets_of live) (place_of live number) all)
+all-without P live number all = rw (tickets-without live number) (all-remove P (tickets_of live) (position_of live number) all)
 
 -- a live ticket is marked, where it is to be
 numbered-mark : (problem : Problem) (tickets : List Ticket) (next : ℕ) (journal : List Event) (to_mark : Bool) (number : ℕ)

@@ -8,21 +8,21 @@ use Rattle.run_cache.specs.declared.cell.Cell.{Cell}
 use Rattle.board_steps.specs.declared.events.Event.{Event}
 use Rattle.board_steps.specs.declared.events.Event.TheVariants.{Stop}
 use Rattle.board_steps.specs.declared.tickets.LiveTicket.{LiveTicket}
-use Rattle.board_steps.specs.Ledgers.{places_of, places_kept, HasRoom}
+use Rattle.board_steps.specs.Ledgers.{events_of, events_kept, HasRoom}
 use Rattle.board_steps.specs.Tickets.{marked, marked_if, mark_event, mark_events}
 
 -- a live ticket needs a place, marked or not
-place_needed : (m : Bool) → 1 ≤ (if m then 1 else 2)
-place_needed true = omega arith
-place_needed false = omega arith
+event_needed : (m : Bool) → 1 ≤ (if m then 1 else 2)
+event_needed true = omega arith
+event_needed false = omega arith
 
 -- those that are marked need no more places
-pub places_marked : (live : List LiveTicket) → sum_by places_of (map marked live) ≤ sum_by places_of live
-places_marked [] = omega arith
-places_marked (l ∷ live) =
-    let before = sum_by-cons places_of l live in
-    let after = sum_by-cons places_of (marked l) (map marked live) in
-    omega (arith, before, after, place_needed l.marked, places_marked live)
+pub events_marked : (live : List LiveTicket) → sum_by events_of (map marked live) ≤ sum_by events_of live
+events_marked [] = omega arith
+events_marked (l ∷ live) =
+    let before = sum_by-cons events_of l live in
+    let after = sum_by-cons events_of (marked l) (map marked live) in
+    omega (arith, before, after, event_needed l.marked, events_marked live)
 
 -- one more element's lists
 pub flat_map_step : {X A : Type 0} (f : X → List A) (bs cs : List A) (xs : List X) (i : ℕ) (x : X) → i < length xs → x ≡ get_or xs i x
@@ -52,23 +52,23 @@ marks_events p xs ys i x before now after within so_far is events added =
     added ∙ flat_map_step (mark_event p) before now xs i x within (next_unchanged (marked_if p) xs ys i x within so_far is) events
 
 -- one more live ticket is marked where it isn't wanted: the places that are kept
-pub marks_places : (ys : List LiveTicket) (i : ℕ) (x new : LiveTicket) (now after all : ℕ) → i < length ys → x ≡ get_or ys i x
-    → after + places_of new ≤ now + places_of x → now + sum_by places_of ys ≤ all → after + sum_by places_of (set ys i new) ≤ all
-marks_places ys i x new now after all within is step room =
-    let change = sum_by-set places_of ys i new x within in
-    let same = ap places_of is in
+pub marks_room : (ys : List LiveTicket) (i : ℕ) (x new : LiveTicket) (now after all : ℕ) → i < length ys → x ≡ get_or ys i x
+    → after + events_of new ≤ now + events_of x → now + sum_by events_of ys ≤ all → after + sum_by events_of (set ys i new) ≤ all
+marks_room ys i x new now after all within is step room =
+    let change = sum_by-set events_of ys i new x within in
+    let same = ap events_of is in
     omega (arith, change, same, step, room)
 
 -- the room of a ledger that is stopped
 pub room_stopped : (journal_room lost_ahead_room : ℕ) (live : List LiveTicket) (lost_ahead : List Cell) (next : ℕ) (journal : List Event)
     → HasRoom journal_room lost_ahead_room live lost_ahead next false journal
     → HasRoom journal_room lost_ahead_room (map marked live) lost_ahead next true (journal ++ Stop ∷ [])
-unfolding places_kept
+unfolding events_kept
 room_stopped journal_room lost_ahead_room live lost_ahead next journal room =
     let one_more = length-append journal (Stop ∷ []) in
     let as_many = length-map live marked in
     record {
-      events = omega (arith, room.events, one_more, places_marked live);
+      events = omega (arith, room.events, one_more, events_marked live);
       cells = omega (arith, room.cells, as_many);
       numbers = omega (arith, room.numbers, one_more);
     }

@@ -38,9 +38,13 @@ use Rattle.board_steps.specs.Problem.{Problem}
 use Rattle.board_steps.specs.ProblemRuns.{table_of}
 use Rattle.board_steps.specs.AgreeingBoards.{IsAgreeing}
 use Rattle.board_steps.specs.RepliedAsks.{quiet_sums, quiet_by, AreReplied}
-use Rattle.board_steps.specs.ShownEntries.{true_by, IsAnsweredAt, ShowsAll, ShowsAborted}
+use Rattle.board_steps.specs.ShownEntries.{true_by, ShowsAll, ShowsAborted}
 use Rattle.ils_face.proofs.EarlierEntries.{shorter_first, fewer_before}
 use Rattle.board_steps.proofs.RepliedAsks.{quiet-follows, present-ask}
+
+-- the reply with this number is that of the total cost that the question asks for
+pub record IsAnsweredAt (sums : Sums) (replies : List Reply) (number : ℕ) (q : Question) : Type 0 where
+  pub reply : slice_get replies number ≡ Some (reply_to sums q)
 
 -- ---- runs that are cut at an ask
 
@@ -59,9 +63,9 @@ known_not sums (Some q) known unknown = not_none (cost_asked sums q) known unkno
 -- where the cost that an ask is of isn't known, the run is cut at it or before
 cut_by : (sums : Sums) (run whole : Run) (number : ℕ) → MeetsAborts sums run whole → number < length whole.asks
     → IsSomeAnd (slice_get whole.asks number) (IsUnknown sums) → IsCutBy run whole number
-cut_by sums run whole number (Aborts.same known s) inside unknown =
+cut_by sums run whole number (ProcedureAborts.same known s) inside unknown =
     absurd (known_not sums (slice_get whole.asks number) (known number inside) unknown)
-cut_by sums run whole number (Aborts.cut k first c) inside unknown =
+cut_by sums run whole number (ProcedureAborts.cut k first c) inside unknown =
     elim (cases_lt number k) as (λ _. IsCutBy run whole number) [
       | inl below ↦ absurd (known_not sums (slice_get whole.asks number) (first.before number below) unknown)
       | inr past ↦ record { cut = k; low = past; ended = c.end; entries = c.entries }
@@ -74,9 +78,9 @@ inside_list P xs k (Some x) e h = slice_get_within xs k x e
 
 -- a procedure that finishes over the truth comes to what it does where each abort counts as unsolved
 same_end : (view : View) (sums : Sums) (run whole : Run) → MeetsAborts sums run whole → IsFinal view whole → run.end ≡ Finished → IsFinal view run
-same_end view sums run whole (Aborts.same known s) final ended =
+same_end view sums run whole (ProcedureAborts.same known s) final ended =
     record { finished = ended; shows = record { entries = final.shows.entries ∙ sym s.entries; last = final.shows.last ∙ sym s.last } }
-same_end view sums run whole (Aborts.cut k first c) final ended = absurd (let no : Finished ≡ Aborted = sym ended ∙ c.end in cc)
+same_end view sums run whole (ProcedureAborts.cut k first c) final ended = absurd (let no : Finished ≡ Aborted = sym ended ∙ c.end in cc)
 
 -- ---- an ask whose configuration has a run that aborts
 

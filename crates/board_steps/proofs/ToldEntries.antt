@@ -15,13 +15,12 @@ use Rattle.ils_face.specs.Steady.{IsSteady, Grows}
 use Rattle.ils_face.specs.Traces.{question_of}
 use Rattle.ils_face.specs.Views.{View}
 use Rattle.run_cache.specs.declared.cell.Cell.{Cell}
-use Rattle.board_steps.specs.BoardAborts.{IsFirstAborting}
 use Rattle.board_steps.specs.BoardInvariant.{BoardInvariant}
 use Rattle.board_steps.specs.Boards.{BoardState, plain_board}
 use Rattle.board_steps.specs.ProblemRuns.{table_of}
 use Rattle.board_steps.specs.RepliedAsks.{quiet_by}
 use Rattle.board_steps.specs.ShownEntries.{true_by, ShowsAll, ShowsAborted}
-use Rattle.board_steps.proofs.AbortedBoards.{aborting-first}
+use Rattle.board_steps.proofs.AbortedBoards.{IsFirstAborting, aborting-first}
 use Rattle.board_steps.proofs.ShownEntries.{first-entries-shown, all-entries-shown, aborted-entries-shown}
 
 module _ (shown : Rules → List Reply → View) (procedure : Rules → Table → Run) (truth : Option (Key → Outcome)) where

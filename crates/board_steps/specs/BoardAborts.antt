@@ -1,31 +1,22 @@
 -- The cell that a board's walk came to and that aborts.
-use Rattle.std.specs.Prelude.{◌≡◌, ◌≤◌, ◌++◌, List, ◌∷◌, Some, All}
-use Rattle.objective.specs.Costs.{Table}
-use Rattle.objective.specs.Bounds.{Bounds}
-use Rattle.uncapped.specs.Procedure.{Question}
+use Rattle.std.specs.Prelude.{◌≡◌, ◌≤◌, ◌++◌, List, ◌∷◌, Some, All, false}
 use Rattle.ils_face.specs.declared.asks.Reply.{Reply}
 use Rattle.ils_face.specs.Rules.{Rules}
 use Rattle.ils_face.specs.Views.{View}
 use Rattle.run_cache.specs.declared.cell.Cell.{Cell}
 use Rattle.run_cache.specs.declared.known.Known.TheVariants.{Abort}
 use Rattle.capping.specs.declared.verdicts.Verdict.TheVariants as verdict
-use Rattle.capping.specs.Decisions.{place_count, IsFirstAbort}
+use Rattle.capping.specs.Decisions.{place_count}
 use Rattle.board_steps.specs.declared.events.Event.{Event}
-use Rattle.board_steps.specs.declared.events.Event.TheVariants.{Advance, Take, Record, Lost, Mark, Killed, Stop, Resume}
+use Rattle.board_steps.specs.declared.events.Event.TheVariants.{Advance}
 use Rattle.board_steps.specs.Boards.{PlainBoard}
+use Rattle.board_steps.specs.Events.{is_advance}
 use Rattle.board_steps.specs.BoardVerdicts.{config_of, ask_on, verdict_on, asked_cell}
 use Rattle.board_steps.specs.Replays.{replay}
 
 -- the event isn't an advance
 abbrev pub IsNoAdvance : Event → Type 0
-IsNoAdvance Advance = ⊥
-IsNoAdvance (Take number kind cell cutoff asked_at) = Unit {0}
-IsNoAdvance (Record number answer) = Unit {0}
-IsNoAdvance (Lost number) = Unit {0}
-IsNoAdvance (Mark number) = Unit {0}
-IsNoAdvance (Killed number) = Unit {0}
-IsNoAdvance Stop = Unit {0}
-IsNoAdvance Resume = Unit {0}
+IsNoAdvance e = is_advance e ≡ false
 
 module _ (shown : Rules → List Reply → View) where
   -- before its last advance the journal makes a board with the same replies, whose verdict is that this cell aborts
@@ -51,8 +42,3 @@ module _ (shown : Rules → List Reply → View) where
   -- a cell is set as aborted only where the walk of the present ask came to it
   pub record IsAborting (b : PlainBoard) : Type 0 where
     pub at : (cell : Cell) → b.aborted ≡ Some cell → IsAbortedAt b cell
-
--- the run of the cell is due at the question of its configuration and aborts, and none before it does
-pub record IsFirstAborting (limits : Bounds) (T : Table) (cell : Cell) (q : Question) : Type 0 where
-  pub config : q.config ≡ cell.config
-  pub first : IsFirstAbort limits T cell.place q

@@ -7,7 +7,6 @@ use Rattle.ils_face.specs.Rules.{Rules}
 use Rattle.ils_face.specs.Views.{View}
 use Rattle.run_cache.specs.declared.cell.Cell.{Cell}
 use Rattle.capping.specs.declared.verdicts.Verdict.{Verdict}
-use Rattle.capping.specs.declared.verdicts.Verdict.TheVariants as verdict
 use Rattle.capping.specs.Verdicts.{verdict_of}
 use Rattle.predictor.specs.declared.wish.Wish.{Wish}
 use Rattle.predictor.specs.Wishes.{wishes_of}

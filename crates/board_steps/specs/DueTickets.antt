@@ -1,5 +1,5 @@
 -- The runs that a board's asks need are due there.
-use Rattle.std.specs.Prelude.{ℕ, ◌≤◌, List, [], ◌∷◌, Option, All, length}
+use Rattle.std.specs.Prelude.{ℕ, ◌≤◌, List, Option, All, IfSome, length, option_map}
 use Rattle.std.specs.List.{flat_map}
 use Rattle.std.specs.List.Sorted.{IsNonDecreasing}
 use Rattle.objective.specs.Bounds.{Bounds}
@@ -12,46 +12,36 @@ use Rattle.uncapped.specs.Uncapped.{Run}
 use Rattle.ils_face.specs.Rules.{Rules}
 use Rattle.run_cache.specs.Runs.{IsDue}
 use Rattle.board_steps.specs.declared.events.Event.{Event}
-use Rattle.board_steps.specs.declared.events.Event.TheVariants.{Advance, Take, Record, Lost, Mark, Killed, Stop, Resume}
+use Rattle.board_steps.specs.declared.tickets.Kind.{Kind}
 use Rattle.board_steps.specs.declared.tickets.Kind.TheVariants.{Asked, Ahead}
 use Rattle.board_steps.specs.Boards.{PlainBoard}
+use Rattle.board_steps.specs.Events.{TakenRun, taken, listed}
 use Rattle.board_steps.specs.ProblemRuns.{table_of}
 use Rattle.board_steps.specs.RepliedAsks.{quiet_by}
 
--- the run of an asked ticket is due, whatever it answers, at the ask whose number is the place at which it was taken
+-- the run of an asked ticket is due, whatever it answers, at the ask at which it was taken
+abbrev pub IsDueRun : Bounds → Table → List Question → Kind → TakenRun → Type 0
+IsDueRun limits T asks Asked t = (answer : Answer) → IsDue limits T asks t.asked_at (record { cell = t.cell; cutoff = t.cutoff; answer = answer })
+IsDueRun limits T asks Ahead t = Unit {0}
+
+-- what an event takes is due, where it was asked for
 abbrev pub IsDueTake : Bounds → Table → List Question → Event → Type 0
-IsDueTake limits T asks Advance = Unit {0}
-IsDueTake limits T asks (Take number Asked cell cutoff asked_at) =
-    (answer : Answer) → IsDue limits T asks asked_at (record { cell = cell; cutoff = cutoff.0; answer = answer })
-IsDueTake limits T asks (Take number Ahead cell cutoff asked_at) = Unit {0}
-IsDueTake limits T asks (Record number answer) = Unit {0}
-IsDueTake limits T asks (Lost number) = Unit {0}
-IsDueTake limits T asks (Mark number) = Unit {0}
-IsDueTake limits T asks (Killed number) = Unit {0}
-IsDueTake limits T asks Stop = Unit {0}
-IsDueTake limits T asks Resume = Unit {0}
+IsDueTake limits T asks e = IfSome (taken e) (λ t. IsDueRun limits T asks t.kind t)
 
--- the place at which an event took a ticket: the number of replies that the search had
-abbrev pub place_taken : Event → List ℕ
-place_taken Advance = []
-place_taken (Take number kind cell cutoff asked_at) = asked_at ∷ []
-place_taken (Record number answer) = []
-place_taken (Lost number) = []
-place_taken (Mark number) = []
-place_taken (Killed number) = []
-place_taken Stop = []
-place_taken Resume = []
+-- the number of the ask at which an event took a ticket
+abbrev pub ask_taken : Event → List ℕ
+ask_taken e = listed (option_map (λ t. t.asked_at) (taken e))
 
--- the places at which all tickets were taken, oldest first
-abbrev pub places_taken : List Event → List ℕ
-places_taken journal = flat_map place_taken journal
+-- the numbers of the asks at which all tickets were taken, oldest first
+abbrev pub asks_taken : List Event → List ℕ
+asks_taken journal = flat_map ask_taken journal
 
--- along a journal the places at which tickets were taken never fall, and none is above this number of replies
+-- along a journal the asks at which tickets were taken never fall, and none is above this number of replies
 pub record AreInOrder (replies : ℕ) (journal : List Event) : Type 0 where
-  pub rising : IsNonDecreasing (places_taken journal)
-  pub within : All (λ place. place ≤ replies) (places_taken journal)
+  pub rising : IsNonDecreasing (asks_taken journal)
+  pub within : All (λ ask. ask ≤ replies) (asks_taken journal)
 
--- each run that was asked for is due, and the places at which tickets were taken are in order
+-- each run that was asked for is due, and the asks at which tickets were taken are in order
 pub record AreDueTickets (procedure : Rules → Table → Run) (truth : Option (Key → Outcome)) (b : PlainBoard) : Type 0 where
   pub due : All (IsDueTake b.problem.rules.limits (table_of truth b.problem) (quiet_by procedure truth b.problem).asks) b.journal
   pub order : AreInOrder (length b.replies) b.journal

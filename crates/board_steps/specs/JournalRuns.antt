@@ -1,47 +1,27 @@
 -- The runs that a journal records, and the events that took the live tickets.
-use Rattle.std.specs.Prelude.{ℕ, ◌≡◌, ◌==◌, ◌++◌, Bool, false, List, [], ◌∷◌, All, filter}
+use Rattle.std.specs.Prelude.{ℕ, ◌≡◌, ◌==◌, ◌++◌, Bool, false, List, [], ◌∷◌, All, filter, option_map}
 use Rattle.std.specs.List.{flat_map}
+use Rattle.std.specs.Option.{unwrap_or}
 use Rattle.objective.specs.declared.Answer.{Answer}
 use Rattle.run_cache.specs.Runs.{CellRun}
 use Rattle.board_steps.specs.declared.events.Event.{Event}
-use Rattle.board_steps.specs.declared.events.Event.TheVariants.{Advance, Take, Record, Lost, Mark, Killed, Stop, Resume}
 use Rattle.board_steps.specs.declared.tickets.Ticket.{Ticket}
 use Rattle.board_steps.specs.Boards.{PlainBoard}
+use Rattle.board_steps.specs.Events.{taken, recorded, listed}
 use Rattle.board_steps.specs.Ledgers.{take_event}
 use Rattle.board_steps.specs.Numbering.{tickets_of}
 
 -- the event took the ticket with this number
 abbrev pub takes : ℕ → Event → Bool
-takes number Advance = false
-takes number (Take taken kind cell cutoff asked_at) = taken == number
-takes number (Record ended answer) = false
-takes number (Lost ended) = false
-takes number (Mark marked) = false
-takes number (Killed ended) = false
-takes number Stop = false
-takes number Resume = false
+takes number e = unwrap_or (option_map (λ t. t.number == number) (taken e)) false
 
 -- the run of an event that took a ticket, with this answer
 abbrev pub run_taken : Answer → Event → List CellRun
-run_taken answer Advance = []
-run_taken answer (Take number kind cell cutoff asked_at) = record { cell = cell; cutoff = cutoff.0; answer = answer } ∷ []
-run_taken answer (Record number shown) = []
-run_taken answer (Lost number) = []
-run_taken answer (Mark number) = []
-run_taken answer (Killed number) = []
-run_taken answer Stop = []
-run_taken answer Resume = []
+run_taken answer e = listed (option_map (λ t. record { cell = t.cell; cutoff = t.cutoff; answer = answer }) (taken e))
 
 -- the run that an event records, of a ticket that was taken in the journal before it
 abbrev pub recorded_in : List Event → Event → List CellRun
-recorded_in before Advance = []
-recorded_in before (Take number kind cell cutoff asked_at) = []
-recorded_in before (Record number answer) = flat_map (run_taken answer) (filter (takes number) before)
-recorded_in before (Lost number) = []
-recorded_in before (Mark number) = []
-recorded_in before (Killed number) = []
-recorded_in before Stop = []
-recorded_in before Resume = []
+recorded_in before e = unwrap_or (option_map (λ r. flat_map (run_taken r.answer) (filter (takes r.number) before)) (recorded e)) []
 
 -- the runs that the rest of a journal records, after this first part of it
 abbrev pub runs_after : List Event → List Event → List CellRun

@@ -3,6 +3,7 @@ pub mod ProblemRuns
 pub mod Tickets
 pub mod Ledgers
 pub mod Boards
+pub mod Events
 pub mod BoardVerdicts
 pub mod Steps
 pub mod Replays

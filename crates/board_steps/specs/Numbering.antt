@@ -1,40 +1,26 @@
 -- How tickets are numbered along a journal, and what each of them is.
-use Rattle.std.specs.Prelude.{ℕ, ◌≡◌, ◌≤◌, ◌<◌, ◌+◌, ◌-◌, ◌==◌, ◌++◌, List, [], ◌∷◌, All, map, IsTrue}
+use Rattle.std.specs.Prelude.{ℕ, ◌≡◌, ◌≤◌, ◌<◌, ◌+◌, ◌-◌, ◌==◌, ◌++◌, List, [], ◌∷◌, All, map, IsTrue, IfSome, option_map}
 use Rattle.std.specs.List.{Contains, count_by, flat_map, range_with_len}
 use Rattle.param_space.specs.Configurations.{IsConfig}
 use Rattle.ils_face.specs.Rules.{Rules}
 use Rattle.run_cache.specs.declared.cell.Cell.{Cell}
 use Rattle.run_cache.specs.Caches.{IsCutoff, has_place_in}
 use Rattle.board_steps.specs.declared.events.Event.{Event}
-use Rattle.board_steps.specs.declared.events.Event.TheVariants.{Advance, Take, Record, Lost, Mark, Killed, Stop, Resume}
 use Rattle.board_steps.specs.declared.tickets.LiveTicket.{LiveTicket}
 use Rattle.board_steps.specs.declared.tickets.Ticket.{Ticket}
 use Rattle.board_steps.specs.Boards.{BoardState}
+use Rattle.board_steps.specs.Events.{taken, ended, listed}
 use Rattle.board_steps.specs.Problem.{Problem}
 use Rattle.board_steps.specs.ProblemRuns.{key_of}
 use Rattle.board_steps.specs.Tickets.{same_cell}
 
 -- the number that an event gives to a ticket
 abbrev pub number_taken : Event → List ℕ
-number_taken Advance = []
-number_taken (Take number kind cell cutoff asked_at) = number ∷ []
-number_taken (Record number answer) = []
-number_taken (Lost number) = []
-number_taken (Mark number) = []
-number_taken (Killed number) = []
-number_taken Stop = []
-number_taken Resume = []
+number_taken e = listed (option_map (λ t. t.number) (taken e))
 
 -- the number of the ticket that an event ends
 abbrev pub number_ended : Event → List ℕ
-number_ended Advance = []
-number_ended (Take number kind cell cutoff asked_at) = []
-number_ended (Record number answer) = number ∷ []
-number_ended (Lost number) = number ∷ []
-number_ended (Mark number) = []
-number_ended (Killed number) = number ∷ []
-number_ended Stop = []
-number_ended Resume = []
+number_ended e = listed (ended e)
 
 -- the numbers of all tickets, in the order in which they were taken
 abbrev pub numbers_taken : List Event → List ℕ
@@ -58,14 +44,7 @@ pub record IsRunnable (rules : Rules) (cell : Cell) (cutoff : ℕ) : Type 0 wher
 
 -- what an event takes may be run
 abbrev pub IsRunnableTake : Rules → Event → Type 0
-IsRunnableTake rules Advance = Unit {0}
-IsRunnableTake rules (Take number kind cell cutoff asked_at) = IsRunnable rules cell cutoff.0
-IsRunnableTake rules (Record number answer) = Unit {0}
-IsRunnableTake rules (Lost number) = Unit {0}
-IsRunnableTake rules (Mark number) = Unit {0}
-IsRunnableTake rules (Killed number) = Unit {0}
-IsRunnableTake rules Stop = Unit {0}
-IsRunnableTake rules Resume = Unit {0}
+IsRunnableTake rules e = IfSome (taken e) (λ t. IsRunnable rules t.cell t.cutoff)
 
 -- a ticket with a number that was given, for the key of its cell
 pub record IsTicket (problem : Problem) (next : ℕ) (t : Ticket) : Type 0 where

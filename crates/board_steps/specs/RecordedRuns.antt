@@ -1,27 +1,20 @@
 -- The runs that a board records: they are rising, what is known comes of them, and the tickets that are live tell more.
-use Rattle.std.specs.Prelude.{◌≡◌, false, List, [], All}
+use Rattle.std.specs.Prelude.{◌≡◌, false, List, [], All, IfSome}
 use Rattle.ils_face.specs.Rules.{Rules}
 use Rattle.run_cache.specs.Caches.{Knowledge}
 use Rattle.run_cache.specs.Knowledge.{is_settled}
 use Rattle.run_cache.specs.Runs.{IsRising, IsBacked}
 use Rattle.board_steps.specs.declared.events.Event.{Event}
-use Rattle.board_steps.specs.declared.events.Event.TheVariants.{Advance, Take, Record, Lost, Mark, Killed, Stop, Resume}
 use Rattle.board_steps.specs.declared.tickets.Kind.TheVariants.{Asked}
 use Rattle.board_steps.specs.declared.tickets.Ticket.{Ticket}
 use Rattle.board_steps.specs.Numbering.{tickets_of}
 use Rattle.board_steps.specs.JournalRuns.{runs_of}
 use Rattle.board_steps.specs.Boards.{PlainBoard}
+use Rattle.board_steps.specs.Events.{taken}
 
 -- a ticket that an event takes is asked for
 abbrev pub IsAskedTake : Event → Type 0
-IsAskedTake Advance = Unit {0}
-IsAskedTake (Take number kind cell cutoff asked_at) = kind ≡ Asked
-IsAskedTake (Record number answer) = Unit {0}
-IsAskedTake (Lost number) = Unit {0}
-IsAskedTake (Mark number) = Unit {0}
-IsAskedTake (Killed number) = Unit {0}
-IsAskedTake Stop = Unit {0}
-IsAskedTake Resume = Unit {0}
+IsAskedTake e = IfSome (taken e) (λ t. t.kind ≡ Asked)
 
 -- the ticket's run tells more than what is known of its cell
 abbrev pub IsUnsettled : Knowledge → Ticket → Type 0

@@ -1,13 +1,11 @@
 -- What a board shows of the procedure's entries: on the way, at the end, and where a run aborts.
-use Rattle.std.specs.Prelude.{ℕ, ◌≡◌, List, Option, Some, slice_get}
+use Rattle.std.specs.Prelude.{◌≡◌, Option}
 use Rattle.objective.specs.Costs.{Table}
 use Rattle.objective.specs.declared.Outcome.{Outcome}
 use Rattle.wrapper_lines.specs.declared.runs.Key.{Key}
-use Rattle.uncapped.specs.Procedure.{Sums, Question, Finished, Aborted}
+use Rattle.uncapped.specs.Procedure.{Finished, Aborted}
 use Rattle.uncapped.specs.Uncapped.{Run}
 use Rattle.ils_face.specs.ProcedureAborts.{entries_of}
-use Rattle.ils_face.specs.declared.asks.Reply.{Reply}
-use Rattle.ils_face.specs.Replies.{reply_to}
 use Rattle.ils_face.specs.Rules.{Rules}
 use Rattle.ils_face.specs.Steady.{Grows}
 use Rattle.ils_face.specs.Traces.{IsFinal}
@@ -18,10 +16,6 @@ use Rattle.board_steps.specs.ProblemRuns.{table_of}
 -- the run of a procedure over a problem's truth
 abbrev pub true_by : (Rules → Table → Run) → Option (Key → Outcome) → Problem → Run
 true_by procedure truth problem = procedure problem.rules (table_of truth problem)
-
--- the reply at a place is that of the total cost that the question asks for
-pub record IsAnsweredAt (sums : Sums) (replies : List Reply) (place : ℕ) (q : Question) : Type 0 where
-  pub reply : slice_get replies place ≡ Some (reply_to sums q)
 
 -- all entries of the procedure where each abort counts as unsolved are shown, and its last line; the first ones are those of
 -- the procedure itself, which comes to the same where it finishes

@@ -5,6 +5,7 @@ use Rattle.std.specs.List.{find, list_any, flat_map, remove, position_or_len}
 use Rattle.wrapper_lines.specs.declared.runs.Setting.{Setting}
 use Rattle.wrapper_lines.specs.declared.runs.Key.{Key}
 use Rattle.run_cache.specs.declared.cell.Cell.{Cell}
+use Rattle.run_cache.specs.Caches.{is_at}
 use Rattle.predictor.specs.declared.wish.Wish.{Wish}
 use Rattle.board_steps.specs.declared.events.Event.{Event}
 use Rattle.board_steps.specs.declared.events.Event.TheVariants.{Mark}
@@ -26,7 +27,7 @@ same_key one other = bytes_eq one.instance other.instance
 
 -- the cells are the same
 abbrev pub same_cell : Cell → Cell → Bool
-same_cell one other = bytes_eq one.config other.config && (one.place == other.place)
+same_cell one other = is_at one other.config other.place
 
 -- the run is made ahead
 abbrev pub is_ahead : Kind → Bool
@@ -53,9 +54,9 @@ same_ticket one other = (one.number == other.number)
 abbrev pub has_number : ℕ → LiveTicket → Bool
 has_number number l = l.ticket.number == number
 
--- the place of the live ticket with a number; the list's length where there is none
-abbrev pub place_of : List LiveTicket → ℕ → ℕ
-place_of live number = position_or_len (has_number number) live
+-- the index of the live ticket with a number; the list's length where there is none
+abbrev pub position_of : List LiveTicket → ℕ → ℕ
+position_of live number = position_or_len (has_number number) live
 
 -- the live ticket with a number
 abbrev pub live_at : List LiveTicket → ℕ → Option LiveTicket
@@ -63,7 +64,7 @@ live_at live number = find (has_number number) live
 
 -- the live tickets without the one with a number
 unfoldable pub without : List LiveTicket → ℕ → List LiveTicket
-without live number = remove live (place_of live number)
+without live number = remove live (position_of live number)
 
 -- the live ticket, where it is of this ticket
 abbrev pub if_same : Ticket → Option LiveTicket → Option LiveTicket
@@ -103,10 +104,19 @@ has_ticket live cell = list_any (λ l. same_cell cell l.ticket.cell) live
 unfoldable pub has_cell : List Cell → Cell → Bool
 has_cell cells cell = list_any (same_cell cell) cells
 
--- the run of a live ticket isn't wanted where a cell is needed under a cutoff
-unfoldable pub is_unwanted_beside : List Wish → Cell → ℕ → LiveTicket → Bool
-is_unwanted_beside wishes needed cutoff l = is_ahead l.ticket.kind
-    && (if same_cell needed l.ticket.cell then nat_lt cutoff l.ticket.run.cutoff.0 else not (list_any (λ w. same_cell l.ticket.cell w.cell) wishes))
+-- the cell is wished for
+abbrev pub is_wished : List Wish → Cell → Bool
+is_wished wishes cell = list_any (λ w. same_cell cell w.cell) wishes
+
+-- a run that is needed
+pub record NeededRun : Type 0 where
+  pub cell : Cell
+  pub cutoff : ℕ
+
+-- the run of a live ticket isn't wanted beside a needed one
+unfoldable pub is_unwanted_beside : List Wish → NeededRun → LiveTicket → Bool
+is_unwanted_beside wishes needed l = is_ahead l.ticket.kind
+    && (if same_cell needed.cell l.ticket.cell then nat_lt needed.cutoff l.ticket.run.cutoff.0 else not (is_wished wishes l.ticket.cell))
 
 -- all runs are unwanted
 abbrev pub all_unwanted : LiveTicket → Bool

@@ -3,13 +3,14 @@ ghost use Rattle.std.specs.Prelude.{◌≡◌, ◌+◌, ◌-◌, ◌<◌, ◌≤
 ghost use Rattle.std.specs.Vec.{vec_len, vec_capacity};
 ghost use Rattle.std.specs.List.{list_any, sum_by};
 ghost use Rattle.board_steps.specs.Tickets;
-ghost use Rattle.board_steps.specs.Ledgers.{take_event, unmarked, lost_ahead_after, places_of, places_kept};
+ghost use Rattle.board_steps.specs.Ledgers;
+ghost use Rattle.board_steps.specs.Ledgers.{events_of, events_kept};
 
 use crate::answers::Standing;
 use crate::events::Event;
+use crate::needed::Needed;
 use crate::tickets::{Kind, LiveTicket, Ticket};
-use objective::{Memory, Micros};
-use param_space::Config;
+use objective::Memory;
 use predictor::Wish;
 use run_cache::Cell;
 use std::alloc::Global;
@@ -31,13 +32,21 @@ pub struct Ledger {
 impl Model for Ledger {
     ghost use Rattle.std.specs.Prelude.{◌+◌, ◌-◌, length};
     ghost use Rattle.std.specs.Vec.{vec_capacity};
-    ghost use Rattle.board_steps.specs.Ledgers.{LedgerState, HasRoom, places_kept};
+    ghost use Rattle.board_steps.specs.Ledgers.{LedgerState, HasRoom, events_kept};
 
     ghost Value = { LedgerState };
 
-    ghost view = { λ l. record { live = l.live.items; lost_ahead = l.lost_ahead.items; next = l.next; stopped = l.stopped; journal = l.journal.items; spare = vec_capacity l.journal - (length l.journal.items + places_kept l.live.items l.stopped) } };
+    ghost view = { λ l. record {
+      live = l.live.items;
+      lost_ahead = l.lost_ahead.items;
+      next = l.next;
+      stopped = l.stopped;
+      journal = l.journal.items;
+      spare = vec_capacity l.journal - (length l.journal.items + events_kept l.live.items l.stopped);
+    } };
 
-    ghost invariant = { λ l. HasRoom (vec_capacity l.journal) (vec_capacity l.lost_ahead) l.live.items l.lost_ahead.items l.next l.stopped l.journal.items };
+    ghost invariant = { λ l. HasRoom (vec_capacity l.journal) (vec_capacity l.lost_ahead)
+        l.live.items l.lost_ahead.items l.next l.stopped l.journal.items };
 }
 
 /// Whether a live ticket is of this cell.
@@ -58,41 +67,28 @@ pub fn has_cell(cells: &[Cell], cell: &Cell) -> bool
 
 /// Whether a cell is wished for.
 fn is_wished(wishes: &[Wish], cell: &Cell) -> bool
-    ensures { result ≡ list_any (λ w. Tickets.same_cell cell.now w.cell) wishes.now }
+    ensures { result ≡ Tickets.is_wished wishes.now cell.now }
 {
     wishes.iter().any(|w| *cell == w.cell)
 }
 
-/// Whether a cell is of this configuration at this place.
-fn is_cell(config: &Config, place: u32, cell: &Cell) -> bool
-    ensures { result ≡ Tickets.same_cell (record { config = config.now; place = place }) cell.now }
-{
-    place == cell.place && config.values() == cell.config.values()
-}
-
-/// Whether the run of a live ticket isn't wanted where a cell is needed under a cutoff.
+/// Whether the run of a live ticket isn't wanted beside a needed one.
 #[tactic(auto, unfolding(crate::specs::Tickets::is_unwanted_beside))]
-fn is_unwanted_beside(
-    l: &LiveTicket,
-    wishes: &[Wish],
-    config: &Config,
-    place: u32,
-    cutoff: Micros,
-) -> bool
-    ensures { result ≡ Tickets.is_unwanted_beside wishes.now (record { config = config.now; place = place }) cutoff.0 l.now }
+fn is_unwanted_beside(l: &LiveTicket, wishes: &[Wish], needed: &Needed<'_>) -> bool
+    ensures { result ≡ Tickets.is_unwanted_beside wishes.now needed.now l.now }
 {
     if l.ticket.kind != Kind::Ahead {
         return false;
     }
-    if is_cell(config, place, &l.ticket.cell) {
-        return cutoff.0 < l.ticket.run.cutoff.0;
+    if needed.is_of(&l.ticket.cell) {
+        return needed.is_below(l.ticket.run.cutoff);
     }
     !is_wished(wishes, &l.ticket.cell)
 }
 
-/// The place of the live ticket with a number, or how many there are.
-fn place_of(live: &[LiveTicket], number: u64) -> usize
-    ensures value { result ≡ Tickets.place_of live.now number }
+/// The index of the live ticket with a number, or how many there are.
+fn position_of(live: &[LiveTicket], number: u64) -> usize
+    ensures value { result ≡ Tickets.position_of live.now number }
     ensures within { result ≤ length live.now }
 {
     for i in 0..live.len() {
@@ -107,7 +103,7 @@ fn place_of(live: &[LiveTicket], number: u64) -> usize
 fn found_among<'a>(live: &'a [LiveTicket], ticket: &Ticket) -> Option<&'a LiveTicket>
     ensures { option_copied result ≡ Tickets.found_in live.now ticket.now }
 {
-    let i = place_of(live, ticket.number);
+    let i = position_of(live, ticket.number);
     if i == live.len() {
         return None;
     }
@@ -122,9 +118,9 @@ fn remove(live: &mut Vec<LiveTicket>, number: u64) -> LiveTicket
     ensures value { Tickets.live_at live.old.items number ≡ Some result }
     ensures items { live.new.items ≡ Tickets.without live.old.items number }
     ensures len { length live.new.items + 1 ≡ length live.old.items }
-    ensures places { sum_by places_of live.new.items + places_of result ≡ sum_by places_of live.old.items }
+    ensures room { sum_by events_of live.new.items + events_of result ≡ sum_by events_of live.old.items }
 {
-    let i = place_of(live, number);
+    let i = position_of(live, number);
     live.remove(i)
 }
 
@@ -139,10 +135,10 @@ fn mark_live(live: &mut Vec<LiveTicket>)
 
 /// Marks a live ticket.
 fn mark(l: &mut LiveTicket, journal: &mut Vec<Event>)
-    requires { length journal.old.items + places_of l.old ≤ vec_capacity journal.old }
+    requires { length journal.old.items + events_of l.old ≤ vec_capacity journal.old }
     ensures marked { l.new ≡ Tickets.marked_if Tickets.all_unwanted l.old }
     ensures journal { journal.new.items ≡ journal.old.items ++ Tickets.mark_event Tickets.all_unwanted l.old }
-    ensures places { length journal.new.items + places_of l.new ≤ length journal.old.items + places_of l.old }
+    ensures room { length journal.new.items + events_of l.new ≤ length journal.old.items + events_of l.old }
     ensures capacity { vec_capacity journal.new ≡ vec_capacity journal.old }
 {
     if l.marked {
@@ -155,21 +151,15 @@ fn mark(l: &mut LiveTicket, journal: &mut Vec<Event>)
 }
 
 /// Marks a live ticket where it isn't wanted.
-fn mark_unwanted(
-    l: &mut LiveTicket,
-    journal: &mut Vec<Event>,
-    wishes: &[Wish],
-    config: &Config,
-    place: u32,
-    cutoff: Micros,
-)
-    requires { length journal.old.items + places_of l.old ≤ vec_capacity journal.old }
-    ensures marked { l.new ≡ Tickets.marked_if (Tickets.is_unwanted_beside wishes.now (record { config = config.now; place = place }) cutoff.0) l.old }
-    ensures journal { journal.new.items ≡ journal.old.items ++ Tickets.mark_event (Tickets.is_unwanted_beside wishes.now (record { config = config.now; place = place }) cutoff.0) l.old }
-    ensures places { length journal.new.items + places_of l.new ≤ length journal.old.items + places_of l.old }
+fn mark_unwanted(l: &mut LiveTicket, journal: &mut Vec<Event>, wishes: &[Wish], needed: &Needed<'_>)
+    requires { length journal.old.items + events_of l.old ≤ vec_capacity journal.old }
+    ensures marked { l.new ≡ Tickets.marked_if (Tickets.is_unwanted_beside wishes.now needed.now) l.old }
+    ensures journal { let is_unwanted = Tickets.is_unwanted_beside wishes.now needed.now in
+        journal.new.items ≡ journal.old.items ++ Tickets.mark_event is_unwanted l.old }
+    ensures room { length journal.new.items + events_of l.new ≤ length journal.old.items + events_of l.old }
     ensures capacity { vec_capacity journal.new ≡ vec_capacity journal.old }
 {
-    if is_unwanted_beside(l, wishes, config, place, cutoff) {
+    if is_unwanted_beside(l, wishes, needed) {
         mark(l, journal);
     }
 }
@@ -179,27 +169,29 @@ fn mark_each_unwanted(
     live: &mut Vec<LiveTicket>,
     journal: &mut Vec<Event>,
     wishes: &[Wish],
-    config: &Config,
-    place: u32,
-    cutoff: Micros,
+    needed: &Needed<'_>,
 )
-    requires { length journal.old.items + sum_by places_of live.old.items ≤ vec_capacity journal.old }
-    ensures marked { live.new.items ≡ map (Tickets.marked_if (Tickets.is_unwanted_beside wishes.now (record { config = config.now; place = place }) cutoff.0)) live.old.items }
-    ensures journal { journal.new.items ≡ journal.old.items ++ Tickets.mark_events (Tickets.is_unwanted_beside wishes.now (record { config = config.now; place = place }) cutoff.0) live.old.items }
-    ensures places { length journal.new.items + sum_by places_of live.new.items ≤ length journal.old.items + sum_by places_of live.old.items }
+    requires { length journal.old.items + sum_by events_of live.old.items ≤ vec_capacity journal.old }
+    ensures marked { let is_unwanted = Tickets.is_unwanted_beside wishes.now needed.now in
+        live.new.items ≡ map (Tickets.marked_if is_unwanted) live.old.items }
+    ensures journal { let is_unwanted = Tickets.is_unwanted_beside wishes.now needed.now in
+        journal.new.items ≡ journal.old.items ++ Tickets.mark_events is_unwanted live.old.items }
+    ensures room { length journal.new.items + sum_by events_of live.new.items
+        ≤ length journal.old.items + sum_by events_of live.old.items }
     ensures capacity { vec_capacity journal.new ≡ vec_capacity journal.old }
 {
     for i in 0..live.len() {
-        mark_unwanted(&mut live[i], journal, wishes, config, place, cutoff);
+        mark_unwanted(&mut live[i], journal, wishes, needed);
     }
 }
 
 /// Marks each of these.
 fn mark_each(live: &mut Vec<LiveTicket>, journal: &mut Vec<Event>)
-    requires { length journal.old.items + sum_by places_of live.old.items ≤ vec_capacity journal.old }
+    requires { length journal.old.items + sum_by events_of live.old.items ≤ vec_capacity journal.old }
     ensures marked { live.new.items ≡ map (Tickets.marked_if Tickets.all_unwanted) live.old.items }
     ensures journal { journal.new.items ≡ journal.old.items ++ Tickets.mark_events Tickets.all_unwanted live.old.items }
-    ensures places { length journal.new.items + sum_by places_of live.new.items ≤ length journal.old.items + sum_by places_of live.old.items }
+    ensures room { length journal.new.items + sum_by events_of live.new.items
+        ≤ length journal.old.items + sum_by events_of live.old.items }
     ensures capacity { vec_capacity journal.new ≡ vec_capacity journal.old }
 {
     for i in 0..live.len() {
@@ -209,9 +201,9 @@ fn mark_each(live: &mut Vec<LiveTicket>, journal: &mut Vec<Event>)
 
 impl Ledger {
     /// A ledger without tickets. It has the room for a stop.
-    #[tactic(auto, unfolding(crate::specs::Ledgers::places_kept))]
+    #[tactic(auto, unfolding(crate::specs::Ledgers::events_kept))]
     pub fn new(alloc: Global) -> Result<Ledger, Memory>
-        ensures { IfOk result (λ l. l ≡ record { live = []; lost_ahead = []; next = 1; stopped = false; journal = []; spare = l.spare }) }
+        ensures { IfOk result (λ l. l ≡ Ledgers.opening_ledger l.spare) }
     {
         let mut journal = Vec::new(alloc);
         journal.reserve(1)?;
@@ -278,7 +270,7 @@ impl Ledger {
     }
 
     /// Makes room for one event beside those that are kept.
-    #[tactic(auto, unfolding(crate::specs::Ledgers::places_kept))]
+    #[tactic(auto, unfolding(crate::specs::Ledgers::events_kept))]
     pub fn make_room(&mut self) -> Result<(), Memory>
         ensures same { self.new ≡ record self.old { spare = self.new.spare } }
         ensures room { OnOk result (1 ≤ self.new.spare) }
@@ -288,10 +280,10 @@ impl Ledger {
         Ok(())
     }
 
-    /// The places of the journal that are kept.
-    #[tactic(auto, unfolding(crate::specs::Ledgers::places_kept))]
+    /// The events for which the journal keeps room.
+    #[tactic(auto, unfolding(crate::specs::Ledgers::events_kept))]
     fn kept(&self) -> usize
-        ensures kept { result ≡ places_kept self.now.live self.now.stopped }
+        ensures kept { result ≡ events_kept self.now.live self.now.stopped }
         ensures few { result + 3 < 2 ^ 64 }
     {
         let mut kept = usize::from(!self.stopped);
@@ -302,20 +294,20 @@ impl Ledger {
     }
 
     /// Puts down that the board advanced. Takes no memory.
-    #[tactic(auto, unfolding(crate::specs::Ledgers::places_kept))]
+    #[tactic(auto, unfolding(crate::specs::Ledgers::events_kept))]
     pub fn advance(&mut self)
         requires { 1 ≤ self.old.spare }
-        ensures { self.new ≡ record self.old { journal = self.old.journal ++ Event.Advance ∷ []; spare = self.new.spare } }
+        ensures { self.new ≡ Ledgers.with_advance self.old self.new.spare }
     {
         self.journal.push_reserved(Event::Advance);
     }
 
     /// Gives a ticket with the next number; `cell` is its cell. After want of memory no ticket is given.
-    #[tactic(auto, unfolding(crate::specs::Ledgers::places_kept))]
+    #[tactic(auto, unfolding(crate::specs::Ledgers::events_kept))]
     pub fn give(&mut self, ticket: Ticket, cell: Cell) -> Result<(), Memory>
         requires number { ticket.number ≡ self.old.next }
         requires cell { cell ≡ ticket.cell }
-        ensures ok { OnOk result (self.new ≡ record self.old { live = self.old.live ++ unmarked ticket ∷ []; next = suc self.old.next; journal = self.old.journal ++ take_event ticket ∷ []; spare = self.new.spare }) }
+        ensures ok { OnOk result (self.new ≡ Ledgers.with_ticket self.old ticket self.new.spare) }
         ensures err { OnErr result (self.new ≡ record self.old { spare = self.new.spare }) }
     {
         let kept = self.kept();
@@ -344,20 +336,21 @@ impl Ledger {
     }
 
     /// Ends a live ticket by an event. Takes no memory.
-    #[tactic(auto, unfolding(crate::specs::Ledgers::places_kept))]
+    #[tactic(auto, unfolding(crate::specs::Ledgers::events_kept))]
     pub fn end(&mut self, number: u64, event: Event)
         requires { IsSome (Tickets.live_at self.old.live number) }
-        ensures { self.new ≡ record self.old { live = Tickets.without self.old.live number; journal = self.old.journal ++ event ∷ []; spare = self.new.spare } }
+        ensures { self.new ≡ Ledgers.with_end self.old number event self.new.spare }
     {
         let _ended = remove(&mut self.live, number);
         self.journal.push_reserved(event);
     }
 
     /// Ends a live ticket whose run couldn't be made: a run ahead isn't made ahead again. Takes no memory.
-    #[tactic(auto, unfolding(crate::specs::Ledgers::places_kept))]
+    #[tactic(auto, unfolding(crate::specs::Ledgers::events_kept))]
     pub fn lose(&mut self, number: u64)
         requires { IsSome (Tickets.live_at self.old.live number) }
-        ensures { IsSomeAnd (Tickets.live_at self.old.live number) (λ l. self.new ≡ record self.old { live = Tickets.without self.old.live number; lost_ahead = lost_ahead_after self.old.lost_ahead l.ticket; journal = self.old.journal ++ Event.Lost number ∷ []; spare = self.new.spare }) }
+        ensures { IsSomeAnd (Tickets.live_at self.old.live number)
+            (λ l. self.new ≡ Ledgers.with_loss self.old number l.ticket self.new.spare) }
     {
         let LiveTicket { ticket, marked: _ } = remove(&mut self.live, number);
         if ticket.kind == Kind::Ahead {
@@ -367,46 +360,35 @@ impl Ledger {
     }
 
     /// Marks every live ticket, and tells how many newly. Takes no memory.
-    #[tactic(auto, unfolding(crate::specs::Ledgers::places_kept))]
+    #[tactic(auto, unfolding(crate::specs::Ledgers::events_kept))]
     pub fn mark_all(&mut self) -> usize
         ensures count { result ≡ length (Tickets.mark_events Tickets.all_unwanted self.old.live) }
-        ensures marked { self.new ≡ record self.old { live = map (Tickets.marked_if Tickets.all_unwanted) self.old.live; journal = self.old.journal ++ Tickets.mark_events Tickets.all_unwanted self.old.live; spare = self.new.spare } }
+        ensures marked { self.new ≡ Ledgers.with_marks self.old Tickets.all_unwanted self.new.spare }
     {
         let before = self.journal.len();
         mark_each(&mut self.live, &mut self.journal);
         self.journal.len() - before
     }
 
-    /// Marks the live tickets that aren't wanted where a cell is needed under a cutoff, and
-    /// tells how many newly. Takes no memory.
-    #[tactic(auto, unfolding(crate::specs::Ledgers::places_kept))]
-    pub fn mark_beside(
-        &mut self,
-        wishes: &[Wish],
-        config: &Config,
-        place: u32,
-        cutoff: Micros,
-    ) -> usize
-        ensures count { result ≡ length (Tickets.mark_events (Tickets.is_unwanted_beside wishes.now (record { config = config.now; place = place }) cutoff.0) self.old.live) }
-        ensures marked { self.new ≡ record self.old { live = map (Tickets.marked_if (Tickets.is_unwanted_beside wishes.now (record { config = config.now; place = place }) cutoff.0)) self.old.live; journal = self.old.journal ++ Tickets.mark_events (Tickets.is_unwanted_beside wishes.now (record { config = config.now; place = place }) cutoff.0) self.old.live; spare = self.new.spare } }
+    /// Marks the live tickets that aren't wanted beside a needed run, and tells how many newly.
+    /// Takes no memory.
+    #[tactic(auto, unfolding(crate::specs::Ledgers::events_kept))]
+    pub fn mark_beside(&mut self, wishes: &[Wish], needed: &Needed<'_>) -> usize
+        ensures count { let is_unwanted = Tickets.is_unwanted_beside wishes.now needed.now in
+            result ≡ length (Tickets.mark_events is_unwanted self.old.live) }
+        ensures marked { let is_unwanted = Tickets.is_unwanted_beside wishes.now needed.now in
+            self.new ≡ Ledgers.with_marks self.old is_unwanted self.new.spare }
     {
         let before = self.journal.len();
-        mark_each_unwanted(
-            &mut self.live,
-            &mut self.journal,
-            wishes,
-            config,
-            place,
-            cutoff,
-        );
+        mark_each_unwanted(&mut self.live, &mut self.journal, wishes, needed);
         self.journal.len() - before
     }
 
     /// Marks every live ticket and gives no more. Takes no memory.
-    #[tactic(auto, using(crate::proofs::Rooms::places_marked), unfolding(crate::specs::Ledgers::places_kept))]
+    #[tactic(auto, using(crate::proofs::Rooms::events_marked), unfolding(crate::specs::Ledgers::events_kept))]
     pub fn stop(&mut self)
         requires { self.old.stopped ≡ false }
-        ensures { self.new ≡ record self.old { live = map Tickets.marked self.old.live; stopped = true; journal = self.old.journal ++ Event.Stop ∷ []; spare = self.new.spare } }
+        ensures { self.new ≡ Ledgers.with_stop self.old self.new.spare }
     {
         mark_live(&mut self.live);
         self.stopped = true;
@@ -414,9 +396,9 @@ impl Ledger {
     }
 
     /// Goes on without live tickets, with the room for the next stop.
-    #[tactic(auto, unfolding(crate::specs::Ledgers::places_kept))]
+    #[tactic(auto, unfolding(crate::specs::Ledgers::events_kept))]
     pub fn resume(&mut self) -> Result<(), Memory>
-        ensures ok { OnOk result (self.new ≡ record self.old { live = []; stopped = false; journal = self.old.journal ++ Event.Resume ∷ []; spare = self.new.spare }) }
+        ensures ok { OnOk result (self.new ≡ Ledgers.with_resume self.old self.new.spare) }
         ensures err { OnErr result (self.new ≡ record self.old { spare = self.new.spare }) }
     {
         let kept = self.kept();

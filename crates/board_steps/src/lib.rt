@@ -8,6 +8,7 @@
 mod answers;
 mod events;
 mod ledger;
+mod needed;
 mod problem;
 mod tickets;
 mod truth;
@@ -15,6 +16,7 @@ mod truth;
 pub use answers::{Advanced, BoardVerdict, Recorded, Standing, Taken};
 pub use events::Event;
 pub use ledger::{Ledger, has_cell, has_ticket};
+pub use needed::Needed;
 pub use problem::Problem;
 pub use tickets::{Kind, LiveTicket, Ticket};
 pub use truth::Truth;

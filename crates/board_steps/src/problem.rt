@@ -44,7 +44,8 @@ impl PartialEq for Problem {
 
     ghost eq = { eq_of_both (on (λ p. p.rules) ⟦<Rules as PartialEq>⟧.eq) (on (λ p. p.pairs) ⟦<Pairs as PartialEq>⟧.eq) };
 
-    ghost laws = { partial_equiv_from_equiv (and_equiv (on_equiv (λ p. p.rules) rules.laws-law) (on_equiv (λ p. p.pairs) pairs.laws-law)) };
+    ghost laws = { partial_equiv_from_equiv
+        (and_equiv (on_equiv (λ p. p.rules) rules.laws-law) (on_equiv (λ p. p.pairs) pairs.laws-law)) };
 
     /// Whether both are the same problem.
     fn eq(&self, other: &Problem) -> bool

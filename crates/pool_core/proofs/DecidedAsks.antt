@@ -20,6 +20,7 @@ use Rattle.board_steps.specs.BoardVerdicts.{asked_cell, config_of, board_verdict
 use Rattle.board_steps.specs.Steps.{same_wish, with_wishes}
 use Rattle.board_steps.proofs.SameItself.{same_wishes-itself}
 use Rattle.pool_core.specs.DecidedAsks.{IsVerdict, IsDecided}
+use Rattle.pool_core.specs.OpenBoards.{IsRunnableFor}
 use Rattle.pool_core.proofs.MarkedBoards.{verdict-open}
 use Rattle.pool_core.proofs.PresentVerdicts.{wishes-stay}
 
@@ -27,7 +28,7 @@ module _ (shown : Rules → List Reply → View) where
   -- the verdict on the ask after these replies, by the rules of the search
   pub verdict-made : (b : BoardState) (rules : Rules) (replies : List Reply) (v : Verdict) → rules ≡ b.problem.rules → b.cache.limits ≡ b.problem.rules.limits
       → v ≡ verdict_of b.cache.limits (known_in b.cache) (shown rules replies).ask → IfReply v (Fits (shown rules replies).ask)
-      → IfNeed v (λ place cutoff. IsRunnable rules (record { config = config_of (shown rules replies).ask; place = place }) cutoff)
+      → IfNeed v (IsRunnableFor rules (shown rules replies).ask)
       → IsVerdict shown b.problem.rules replies (known_in b.cache) v
   verdict-made b rules replies v same limits value fits runnable =
       let here : b.cache.limits ≡ rules.limits = limits ∙ ap (λ r. r.limits) (sym same) in

@@ -96,9 +96,9 @@ module _ (shown : Rules → List Reply → View) where
   -- what isn't wanted where a run of the present ask is needed
   pub unwanted-beside : (now b : BoardState) (rules : Rules) (wishes : List Wish) (config : List ℕ) (place : ℕ) (cutoff : Micros) → b ≡ now → rules ≡ b.problem.rules
       → board_verdict_of shown (plain_board now) ≡ board_verdict.Open (verdict.Need place cutoff) → wishes ≡ b.wishes → config ≡ config_of (shown rules b.replies).ask
-      → is_unwanted_beside wishes (record { config = config; place = place }) cutoff.0 ≡ is_unwanted shown (plain_board b)
+      → is_unwanted_beside wishes (record { cell = record { config = config; place = place }; cutoff = cutoff.0 }) ≡ is_unwanted shown (plain_board b)
   unfolding plain_board is_unwanted asked_cell
   unwanted-beside now b rules wishes config place cutoff same ruled stands wished asked =
       let stands_here = ap (λ x. board_verdict_of shown (plain_board x)) same ∙ stands in
-      (λ i. is_unwanted_beside (wished i) (record { config = (asked ∙ ap (λ r. config_of (shown r b.replies).ask) ruled) i; place = place }) cutoff.0)
+      (λ i. is_unwanted_beside (wished i) (record { cell = record { config = (asked ∙ ap (λ r. config_of (shown r b.replies).ask) ruled) i; place = place }; cutoff = cutoff.0 }))
       ∙ ap (is_unwanted_by shown (plain_board b)) (sym stands_here)

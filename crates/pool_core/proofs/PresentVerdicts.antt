@@ -18,6 +18,7 @@ use Rattle.board_steps.specs.declared.answers.BoardVerdict.{BoardVerdict}
 use Rattle.board_steps.specs.declared.answers.Taken.{Taken}
 use Rattle.board_steps.specs.Steps.{same_wish, with_wishes, advanced_to, advanced_on, advanced_by, after_advance, taken_by, taken_on, with_taken, after_take}
 use Rattle.pool_core.specs.DecidedAsks.{IsVerdict}
+use Rattle.pool_core.specs.OpenBoards.{IsRunnableAt}
 use Rattle.capping.specs.Decisions.{IfReply, IfNeed}
 use Rattle.board_steps.specs.BoardVerdicts.{ask_on, config_of, asked_cell, verdict_on, board_verdict_by, board_verdict_of, wishes_on}
 
@@ -63,7 +64,7 @@ module _ (shown : Rules → List Reply → View) where
 
   -- the run that a verdict needs may be run
   pub needs-runnable : (b : BoardState) (v : Verdict) → IsVerdict shown b.problem.rules b.replies (known_in b.cache) v
-      → IfNeed v (λ place cutoff. IsRunnable b.problem.rules (asked_cell shown (plain_board b) place) cutoff)
+      → IfNeed v (IsRunnableAt shown b)
   unfolding plain_board asked_cell
   needs-runnable b v is = is.runnable
 

@@ -13,12 +13,10 @@ use Rattle.ils_face.specs.Steady.{IsSteady}
 use Rattle.ils_face.specs.Views.{View}
 use Rattle.board_steps.specs.BoardInvariant.{BoardInvariant}
 use Rattle.board_steps.specs.Boards.{BoardState}
-use Rattle.board_steps.specs.RepliedAsks.{quiet_by}
-use Rattle.board_steps.specs.ShownEntries.{true_by}
 use Rattle.board_steps.proofs.ToldEntries.{told-entries, told-finished, told-aborted}
 use Rattle.pool_core.specs.declared.board.Ending.{Ending}
 use Rattle.pool_core.specs.declared.board.Ending.TheVariants.{Running, Finished, Aborted}
-use Rattle.pool_core.specs.Endings.{IsEnding, ShowsEnding}
+use Rattle.pool_core.specs.Endings.{IsEnding, ShowsTruth}
 
 -- what is shown where a truth is told, by the ending
 pub ending-shows : (shown : Rules → List Reply → View) (procedure : Rules → Table → Run) (truth : Option (Key → Outcome))
@@ -26,7 +24,7 @@ pub ending-shows : (shown : Rules → List Reply → View) (procedure : Rules �
     → ((rules : Rules) → AreRules rules → IsSteady rules (shown rules))
     → ((rules : Rules) (T : Table) → AreRules rules → MeetsAborts (sums_under rules T) (procedure rules T) (procedure rules (quiet T)))
     → (b : BoardState) (e : Ending) → IsEnding shown b e → BoardInvariant shown procedure truth b → IsSome truth
-    → ShowsEnding (shown b.problem.rules b.replies) (true_by procedure truth b.problem) (quiet_by procedure truth b.problem) e
+    → ShowsTruth shown procedure truth b e
 ending-shows shown procedure truth follows steady aborts b Running is inv told = told-entries shown procedure truth follows steady b told inv
 ending-shows shown procedure truth follows steady aborts b Finished is inv told = told-finished shown procedure truth follows steady aborts b is.1 told inv
 ending-shows shown procedure truth follows steady aborts b (Aborted cell) is inv told = told-aborted shown procedure truth follows steady aborts b cell.now is told inv

@@ -12,7 +12,7 @@ use Rattle.board_steps.specs.declared.tickets.LiveTicket.{LiveTicket}
 use Rattle.board_steps.specs.declared.tickets.Ticket.{Ticket}
 use Rattle.board_steps.specs.Ledgers.{unmarked}
 use Rattle.board_steps.specs.Numbering.{tickets_of}
-use Rattle.board_steps.specs.Tickets.{has_number, if_same, live_at, found_in, marked, place_of, same_ticket, standing_of}
+use Rattle.board_steps.specs.Tickets.{has_number, if_same, live_at, found_in, marked, position_of, same_ticket, standing_of}
 use Rattle.board_steps.proofs.MarkedTickets.{HaveOwnNumbers}
 use Rattle.board_steps.proofs.SameItself.{same_ticket-itself}
 use Rattle.pool_core.proofs.TicketEnds.{found-some, ticket-found}
@@ -100,7 +100,7 @@ marked-standing (Some l) live = record { l = l; found = refl; marks = by l.marke
 -- a live ticket with a number is among them
 live-among : (live : List LiveTicket) (number : ℕ) (l : LiveTicket) → live_at live number ≡ Some l → Contains live l
 live-among live number l found =
-    let i = place_of live number in
+    let i = position_of live number in
     let at : ◌≡◌ {A = Option LiveTicket} (slice_get live i) (Some l) = sym (find_at (has_number number) live) ∙ found in
     let within = slice_get_within live i l at in
     (i, within, get_or_from_slice_get live i l l at)

@@ -16,7 +16,7 @@ use Rattle.board_steps.specs.Boards.{BoardState, plain_board}
 use Rattle.board_steps.specs.Steps.{with_end, with_record, with_given_up, with_answer, with_loss, with_kill, after_record, after_lost, after_killed, recorded_on, recorded_by, recorded_as, learnt_from}
 use Rattle.board_steps.specs.Numbering.{IsTicket, tickets_of}
 use Rattle.board_steps.specs.Problem.{Problem}
-use Rattle.board_steps.specs.Tickets.{has_number, if_same, live_at, found_in, place_of, same_ticket}
+use Rattle.board_steps.specs.Tickets.{has_number, if_same, live_at, found_in, position_of, same_ticket}
 use Rattle.board_steps.proofs.LiveTickets.{found-live}
 use Rattle.board_steps.proofs.SameTickets.{same_ticket-equal}
 
@@ -36,7 +36,7 @@ is-same t (Some k) l found = kept (same_ticket k.ticket t) refl found
 -- its ticket is among those that are live
 ticket-among : (live : List LiveTicket) (number : ℕ) (l : LiveTicket) → live_at live number ≡ Some l → Contains (tickets_of live) l.ticket
 ticket-among live number l found =
-    let i = place_of live number in
+    let i = position_of live number in
     let at : ◌≡◌ {A = Option LiveTicket} (slice_get live i) (Some l) = sym (find_at (has_number number) live) ∙ found in
     let within = slice_get_within live i l at in
     (i, omega (arith, within, length-map live (λ k. k.ticket)), get_or-map (λ k. k.ticket) live i l l.ticket within ∙ ap (λ k. k.ticket) (get_or_from_slice_get live i l l at))

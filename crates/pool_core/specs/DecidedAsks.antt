@@ -16,16 +16,15 @@ use Rattle.predictor.specs.declared.wish.Wish.{Wish}
 use Rattle.predictor.specs.Wishes.{wishes_of}
 use Rattle.board_steps.specs.Boards.{BoardState}
 use Rattle.board_steps.specs.BoardInvariant.{BoardInvariant}
-use Rattle.board_steps.specs.Numbering.{IsRunnable}
 use Rattle.capping.specs.Decisions.{IfReply, IfNeed}
-use Rattle.board_steps.specs.BoardVerdicts.{config_of}
 use Rattle.board_steps.specs.Steps.{same_wish}
+use Rattle.pool_core.specs.OpenBoards.{IsRunnableFor}
 
 -- the verdict on the ask after these replies, by what is known: a reply fits the ask, and a needed run may be made
 pub record IsVerdict (shown : Rules → List Reply → View) (rules : Rules) (replies : List Reply) (known : Knowledge) (v : Verdict) : Type 0 where
   pub value : v ≡ verdict_of rules.limits known (shown rules replies).ask
   pub fits : IfReply v (Fits (shown rules replies).ask)
-  pub runnable : IfNeed v (λ place cutoff. IsRunnable rules (record { config = config_of (shown rules replies).ask; place = place }) cutoff)
+  pub runnable : IfNeed v (IsRunnableFor rules (shown rules replies).ask)
 
 -- an ask is decided: this is the verdict on it, and these are the wishes at it
 pub record IsDecided (shown : Rules → List Reply → View) (rules : Rules) (replies : List Reply) (known : Knowledge) (wishes : List Wish) (v : Verdict) : Type 0 where

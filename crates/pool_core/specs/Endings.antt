@@ -1,5 +1,8 @@
 -- How a search is at its end.
-use Rattle.std.specs.Prelude.{◌≡◌, ◌≢◌, List, Some, None}
+use Rattle.std.specs.Prelude.{◌≡◌, ◌≢◌, List, Option, Some, None}
+use Rattle.objective.specs.Costs.{Table}
+use Rattle.objective.specs.declared.Outcome.{Outcome}
+use Rattle.wrapper_lines.specs.declared.runs.Key.{Key}
 use Rattle.uncapped.specs.Uncapped.{Run}
 use Rattle.ils_face.specs.ProcedureAborts.{entries_of}
 use Rattle.ils_face.specs.declared.asks.Ask.TheVariants.{End}
@@ -8,7 +11,8 @@ use Rattle.ils_face.specs.Rules.{Rules}
 use Rattle.ils_face.specs.Steady.{Grows}
 use Rattle.ils_face.specs.Views.{View}
 use Rattle.board_steps.specs.Boards.{BoardState}
-use Rattle.board_steps.specs.ShownEntries.{ShowsAll, ShowsAborted}
+use Rattle.board_steps.specs.RepliedAsks.{quiet_by}
+use Rattle.board_steps.specs.ShownEntries.{true_by, ShowsAll, ShowsAborted}
 use Rattle.pool_core.specs.declared.board.Ending.{Ending}
 use Rattle.pool_core.specs.declared.board.Ending.TheVariants.{Running, Finished, Aborted}
 
@@ -24,3 +28,8 @@ abbrev pub ShowsEnding : View → Run → Run → Ending → Type 0
 ShowsEnding view run whole Running = Grows view.entries (entries_of whole)
 ShowsEnding view run whole Finished = ShowsAll view run whole
 ShowsEnding view run whole (Aborted cell) = ShowsAborted view run whole
+
+-- what a board shows at an ending, beside the procedure over a truth
+abbrev pub ShowsTruth : (Rules → List Reply → View) → (Rules → Table → Run) → Option (Key → Outcome) → BoardState → Ending → Type 0
+ShowsTruth shown procedure truth b e =
+    ShowsEnding (shown b.problem.rules b.replies) (true_by procedure truth b.problem) (quiet_by procedure truth b.problem) e

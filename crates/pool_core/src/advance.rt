@@ -2,10 +2,9 @@
 ghost use Rattle.std.specs.Prelude.{◌≡◌, ◌-◌, IfOk, OnOk, OnErr};
 ghost use Rattle.ils_face.specs.Replies.{Fits};
 ghost use Rattle.board_steps.specs.Boards.{plain_board};
-ghost use Rattle.board_steps.specs.Numbering.{IsRunnable};
-ghost use Rattle.board_steps.specs.BoardVerdicts;
-ghost use Rattle.board_steps.specs.BoardVerdicts.{ask_on, board_verdict_of};
+ghost use Rattle.board_steps.specs.BoardVerdicts.{ask_on};
 ghost use Rattle.board_steps.specs.Steps.{advanced_on, after_advance, with_reply, with_wishes, with_abort};
+ghost use Rattle.pool_core.specs.OpenBoards.{IsRunnableAt, StandsAt};
 
 use crate::board::Board;
 use crate::present_asks::{asked_cell, same_wishes, verdict_by, wishes_after, wishes_now};
@@ -42,7 +41,7 @@ impl<P: Search, S: Spawner> Board<P, S> {
 
     /// Answers the search. The wishes are made first, on a copy.
     fn answer(&mut self, reply: Reply) -> Result<Advanced, Memory>
-        requires stands { board_verdict_of P.shown (plain_board self.old) ≡ BoardVerdict.Open (Verdict.Reply reply) }
+        requires stands { StandsAt P.shown self.old (Verdict.Reply reply) }
         requires fits { Fits (ask_on P.shown (plain_board self.old)) reply }
         ensures answer { IfOk result (λ a. a ≡ Advanced.Moved) }
         ensures board { OnOk result (plain_board self.new ≡ with_reply P.shown (plain_board self.old) reply) }
@@ -61,8 +60,8 @@ impl<P: Search, S: Spawner> Board<P, S> {
 
     /// Sees to the wishes where a run is needed: those of an ask that is decided are kept.
     fn wish(&mut self, place: u32, cutoff: Micros) -> Result<Advanced, Memory>
-        requires stands { board_verdict_of P.shown (plain_board self.old) ≡ BoardVerdict.Open (Verdict.Need place cutoff) }
-        requires runnable { IsRunnable self.old.problem.rules (BoardVerdicts.asked_cell P.shown (plain_board self.old) place) cutoff.0 }
+        requires stands { StandsAt P.shown self.old (Verdict.Need place cutoff) }
+        requires runnable { IsRunnableAt P.shown self.old place cutoff.0 }
         ensures answer { IfOk result (λ a. a ≡ Advanced.Waits) }
         ensures board { OnOk result (plain_board self.new ≡ with_wishes P.shown (plain_board self.old)) }
         ensures err { OnErr result (self.new ≡ self.old) }
@@ -75,8 +74,8 @@ impl<P: Search, S: Spawner> Board<P, S> {
 
     /// Makes the wishes anew where a run is needed.
     fn wish_anew(&mut self, place: u32, cutoff: Micros) -> Result<Advanced, Memory>
-        requires stands { board_verdict_of P.shown (plain_board self.old) ≡ BoardVerdict.Open (Verdict.Need place cutoff) }
-        requires runnable { IsRunnable self.old.problem.rules (BoardVerdicts.asked_cell P.shown (plain_board self.old) place) cutoff.0 }
+        requires stands { StandsAt P.shown self.old (Verdict.Need place cutoff) }
+        requires runnable { IsRunnableAt P.shown self.old place cutoff.0 }
         ensures answer { IfOk result (λ a. a ≡ Advanced.Waits) }
         ensures board { OnOk result (plain_board self.new ≡ with_wishes P.shown (plain_board self.old)) }
         ensures err { OnErr result (self.new ≡ self.old) }
@@ -97,7 +96,7 @@ impl<P: Search, S: Spawner> Board<P, S> {
 
     /// Ends the search at a run that asked for it.
     fn abort(&mut self, place: u32) -> Result<Advanced, Memory>
-        requires { board_verdict_of P.shown (plain_board self.old) ≡ BoardVerdict.Open (Verdict.Aborted place) }
+        requires { StandsAt P.shown self.old (Verdict.Aborted place) }
         ensures answer { IfOk result (λ a. a ≡ Advanced.Aborted) }
         ensures board { OnOk result (plain_board self.new ≡ with_abort P.shown (plain_board self.old) place) }
         ensures err { OnErr result (self.new ≡ self.old) }

@@ -4,18 +4,15 @@ ghost use Rattle.std.specs.List.{Contains};
 ghost use Rattle.run_cache.specs.Caches.{known_in};
 ghost use Rattle.board_steps.specs.Boards.{opening, plain_board};
 ghost use Rattle.board_steps.specs.BoardInvariant.{BoardInvariant};
-ghost use Rattle.board_steps.specs.RepliedAsks.{quiet_by};
-ghost use Rattle.board_steps.specs.ShownEntries.{true_by};
-ghost use Rattle.board_steps.specs.BoardVerdicts;
 ghost use Rattle.capping.specs.Decisions.{IfReply, IfNeed};
 ghost use Rattle.board_steps.specs.BoardVerdicts.{board_verdict_of, ask_on, IfOpen};
-ghost use Rattle.board_steps.specs.Numbering.{IsRunnable};
 ghost use Rattle.ils_face.specs.Replies.{Fits};
 ghost use Rattle.ils_face.specs.Rules.{AreRules};
 ghost use Rattle.board_steps.specs.Ledgers.{unmarked};
 ghost use Rattle.board_steps.specs.Tickets.{found_in, marked, standing_of};
 ghost use Rattle.pool_core.specs.DecidedAsks.{IsVerdict};
-ghost use Rattle.pool_core.specs.Endings.{IsEnding, ShowsEnding};
+ghost use Rattle.pool_core.specs.Endings.{IsEnding, ShowsTruth};
+ghost use Rattle.pool_core.specs.OpenBoards.{IsRunnableAt};
 
 use crate::present_asks::verdict_by;
 use board_steps::{Event, Ledger, BoardVerdict, Problem, Standing, Ticket};
@@ -63,7 +60,7 @@ impl<P: Search, S: Spawner> Model for Board<P, S> {
 
     ghost view = { λ b. state_of b.problem (P.replies_of b.search) b.cache b.wishes.items b.aborted b.ledger };
 
-    ghost invariant = { λ b. IsBoard P.shown P.plain S.truth (P.rules_of b.search) b.decided (state_of b.problem (P.replies_of b.search) b.cache b.wishes.items b.aborted b.ledger) };
+    ghost invariant = { λ b. IsBoard P.shown P.plain S.truth (P.rules_of b.search) b.decided (view b) };
 }
 
 /// A search by the rules of a problem.
@@ -163,7 +160,7 @@ impl<P: Search, S: Spawner> Board<P, S> {
     /// Takes no memory.
     pub fn ending(&self) -> Ending<'_>
         ensures ending { IsEnding P.shown self.now result }
-        ensures shows { IsSome S.truth → ShowsEnding (P.shown self.now.problem.rules self.now.replies) (true_by P.plain S.truth self.now.problem) (quiet_by P.plain S.truth self.now.problem) result }
+        ensures shows { IsSome S.truth → ShowsTruth P.shown P.plain S.truth self.now result }
     {
         self.is_board();
         self.present_ending()
@@ -186,7 +183,7 @@ impl<P: Search, S: Spawner> Board<P, S> {
     pub(crate) fn board_verdict(&self) -> BoardVerdict
         ensures value { result ≡ board_verdict_of P.shown (plain_board self.now) }
         ensures fits { IfOpen result (λ v. IfReply v (Fits (ask_on P.shown (plain_board self.now)))) }
-        ensures runnable { IfOpen result (λ v. IfNeed v (λ place cutoff. IsRunnable self.now.problem.rules (BoardVerdicts.asked_cell P.shown (plain_board self.now) place) cutoff)) }
+        ensures runnable { IfOpen result (λ v. IfNeed v (IsRunnableAt P.shown self.now)) }
     {
         if self.ledger.stopped() {
             return BoardVerdict::Stopped;

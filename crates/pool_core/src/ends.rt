@@ -1,9 +1,8 @@
 //! The steps that end a ticket.
 ghost use Rattle.std.specs.Prelude.{◌≡◌, true, Some, IsSome, option_map};
 ghost use Rattle.std.specs.Option.{is_some};
-ghost use Rattle.objective.specs.Costs.{IsWithin, seen};
-ghost use Rattle.objective.specs.declared.Outcome.{Outcome};
-ghost use Rattle.wrapper_lines.specs.declared.runs.Key.{Key};
+ghost use Rattle.objective.specs.Costs.{IsWithin};
+ghost use Rattle.board_steps.specs.AgreeingBoards.{IsTold};
 ghost use Rattle.board_steps.specs.Boards.{plain_board};
 ghost use Rattle.board_steps.specs.Steps;
 ghost use Rattle.board_steps.specs.Steps.{after_killed, after_lost, after_record, recorded_on};
@@ -33,7 +32,7 @@ impl<P: Search, S: Spawner> Board<P, S> {
     /// no memory.
     pub fn record(&mut self, ticket: &Ticket, answer: Answer) -> Recorded
         requires within { IsWithin answer ticket.now.run.cutoff.0 }
-        requires told { (outcome : Key → Outcome) → S.truth ≡ Some outcome → answer ≡ seen (outcome ticket.now.run.key) ticket.now.run.cutoff.0 }
+        requires told { IsTold S.truth ticket.now answer }
         ensures answer { result ≡ recorded_on (plain_board self.old) ticket.now answer }
         ensures board { plain_board self.new ≡ after_record (plain_board self.old) ticket.now answer }
     {

@@ -1,13 +1,13 @@
 //! The steps that mark tickets.
 ghost use Rattle.std.specs.Prelude.{◌≡◌, ◌||◌, OnOk, OnErr, length, nat_lt};
 ghost use Rattle.board_steps.specs.Boards.{plain_board};
-ghost use Rattle.board_steps.specs.BoardVerdicts.{board_verdict_of};
 ghost use Rattle.board_steps.specs.Steps.{after_mark, after_resume, after_stop, marked_board, marked_on};
 ghost use Rattle.board_steps.specs.Tickets.{all_unwanted, mark_events};
+ghost use Rattle.pool_core.specs.OpenBoards.{StandsAt};
 
 use crate::board::Board;
 use crate::present_asks::asked_config;
-use board_steps::BoardVerdict;
+use board_steps::{BoardVerdict, Needed};
 use capping::Verdict;
 use ils_face::Search;
 use objective::{Memory, Micros};
@@ -40,13 +40,18 @@ impl<P: Search, S: Spawner> Board<P, S> {
 
     /// Marks the live tickets that aren't wanted where a run is needed.
     fn mark_beside(&mut self, place: u32, cutoff: Micros) -> usize
-        requires { board_verdict_of P.shown (plain_board self.old) ≡ BoardVerdict.Open (Verdict.Need place cutoff) }
+        requires { StandsAt P.shown self.old (Verdict.Need place cutoff) }
         ensures answer { result ≡ marked_on P.shown (plain_board self.old) }
         ensures board { plain_board self.new ≡ after_mark P.shown (plain_board self.old) }
     {
         let wishes = self.wishes.as_slice();
         let config = asked_config(&self.search);
-        self.ledger.mark_beside(wishes, config, place, cutoff)
+        let needed = Needed {
+            config,
+            place,
+            cutoff,
+        };
+        self.ledger.mark_beside(wishes, &needed)
     }
 
     /// Marks every live ticket and gives no more. Takes no memory.

@@ -9,6 +9,8 @@ ghost use Rattle.board_steps.specs.Numbering.{IsRunnable};
 ghost use Rattle.capping.specs.Decisions.{IfReply, IfNeed};
 ghost use Rattle.board_steps.specs.BoardVerdicts.{config_of};
 ghost use Rattle.board_steps.specs.Steps.{same_wish};
+ghost use Rattle.ils_face.specs.PresentViews.{view_of};
+ghost use Rattle.pool_core.specs.OpenBoards.{IsRunnableFor};
 
 use capping::{Verdict, decide};
 use ils_face::{Ask, Reply, Search};
@@ -21,17 +23,17 @@ use std::alloc::Global;
 /// What is known makes of the present ask. Takes no memory.
 pub(crate) fn verdict_by<P: Search>(search: &P, cache: &Cache) -> Verdict
     requires { cache.now.limits ≡ (P.rules_of search.now).limits }
-    ensures value { result ≡ verdict_of cache.now.limits (known_in cache.now) (P.shown (P.rules_of search.now) (P.replies_of search.now)).ask }
-    ensures fits { IfReply result (Fits (P.shown (P.rules_of search.now) (P.replies_of search.now)).ask) }
-    ensures runnable { IfNeed result (λ place cutoff. IsRunnable (P.rules_of search.now) (record { config = config_of (P.shown (P.rules_of search.now) (P.replies_of search.now)).ask; place = place }) cutoff) }
+    ensures value { result ≡ verdict_of cache.now.limits (known_in cache.now) (view_of P.Search search.now).ask }
+    ensures fits { IfReply result (Fits (view_of P.Search search.now).ask) }
+    ensures runnable { IfNeed result (IsRunnableFor (P.rules_of search.now) (view_of P.Search search.now).ask) }
 {
     decide(cache, search.ask())
 }
 
 /// The configuration of the present ask, which isn't the end.
 pub(crate) fn asked_config<P: Search>(search: &P) -> &Config
-    requires { (P.shown (P.rules_of search.now) (P.replies_of search.now)).ask ≢ Ask.End }
-    ensures { result.now ≡ config_of (P.shown (P.rules_of search.now) (P.replies_of search.now)).ask }
+    requires { (view_of P.Search search.now).ask ≢ Ask.End }
+    ensures { result.now ≡ config_of (view_of P.Search search.now).ask }
 {
     match search.ask() {
         Ask::Full { config, .. } => config,
@@ -42,7 +44,7 @@ pub(crate) fn asked_config<P: Search>(search: &P) -> &Config
 
 /// The cell of the present ask's configuration at a place.
 pub(crate) fn asked_cell<P: Search>(alloc: Global, search: &P, place: u32) -> Result<Cell, Memory>
-    ensures { IfOk result (λ c. c ≡ record { config = config_of (P.shown (P.rules_of search.now) (P.replies_of search.now)).ask; place = place }) }
+    ensures { IfOk result (λ c. c ≡ record { config = config_of (view_of P.Search search.now).ask; place = place }) }
 {
     match search.ask() {
         Ask::Full { config, .. } => Cell::at(config, place),
@@ -62,7 +64,10 @@ pub(crate) fn wishes_now<P: Search>(
     k: u32,
 ) -> Result<Vec<Wish>, Memory>
     requires { cache.now.limits ≡ (P.rules_of search.now).limits }
-    ensures value { IfOk result (λ w. w.items ≡ wishes_of (P.shown (P.rules_of search.now)) cache.now.limits (known_in cache.now) (P.replies_of search.now) k) }
+    ensures value {
+        let shown = P.shown (P.rules_of search.now) in
+        IfOk result (λ w. w.items ≡ wishes_of shown cache.now.limits (known_in cache.now) (P.replies_of search.now) k)
+    }
     ensures runnable { IfOk result (λ w. All (λ w. IsRunnable (P.rules_of search.now) w.cell w.cutoff.0) w.items) }
 {
     wishes(alloc, search, cache, k)
@@ -78,8 +83,12 @@ pub(crate) fn wishes_after<P: Search>(
     k: u32,
 ) -> Result<Vec<Wish>, Memory>
     requires limits { cache.now.limits ≡ (P.rules_of search.now).limits }
-    requires fits { Fits (P.shown (P.rules_of search.now) (P.replies_of search.now)).ask reply }
-    ensures value { IfOk result (λ w. w.items ≡ wishes_of (P.shown (P.rules_of search.now)) cache.now.limits (known_in cache.now) (P.replies_of search.now ++ reply ∷ []) k) }
+    requires fits { Fits (view_of P.Search search.now).ask reply }
+    ensures value {
+        let shown = P.shown (P.rules_of search.now) in
+        let replies = P.replies_of search.now ++ reply ∷ [] in
+        IfOk result (λ w. w.items ≡ wishes_of shown cache.now.limits (known_in cache.now) replies k)
+    }
     ensures runnable { IfOk result (λ w. All (λ w. IsRunnable (P.rules_of search.now) w.cell w.cutoff.0) w.items) }
 {
     let _ = search.ask(); // it tells what the replies so far are

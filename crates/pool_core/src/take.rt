@@ -5,9 +5,9 @@ ghost use Rattle.objective.specs.Limits.{max_runs};
 ghost use Rattle.board_steps.specs.Boards.{plain_board};
 ghost use Rattle.board_steps.specs.Numbering.{IsRunnable};
 ghost use Rattle.board_steps.specs.BoardVerdicts;
-ghost use Rattle.board_steps.specs.BoardVerdicts.{board_verdict_of};
 ghost use Rattle.board_steps.specs.Steps.{after_take, is_free, taken_on, ticket_for};
 ghost use Rattle.board_steps.specs.Tickets;
+ghost use Rattle.pool_core.specs.OpenBoards.{IsRunnableAt, StandsAt};
 
 use crate::board::Board;
 use crate::present_asks::asked_cell;
@@ -40,8 +40,8 @@ impl<P: Search, S: Spawner> Board<P, S> {
 
     /// Gives a ticket where a run is needed.
     fn take_needed(&mut self, place: u32, cutoff: Micros) -> Result<Taken, Memory>
-        requires stands { board_verdict_of P.shown (plain_board self.old) ≡ BoardVerdict.Open (Verdict.Need place cutoff) }
-        requires runnable { IsRunnable self.old.problem.rules (BoardVerdicts.asked_cell P.shown (plain_board self.old) place) cutoff.0 }
+        requires stands { StandsAt P.shown self.old (Verdict.Need place cutoff) }
+        requires runnable { IsRunnableAt P.shown self.old place cutoff.0 }
         ensures answer { IfOk result (λ t. t ≡ taken_on P.shown (plain_board self.old)) }
         ensures board { OnOk result (plain_board self.new ≡ after_take P.shown (plain_board self.old)) }
         ensures err { OnErr result (plain_board self.new ≡ plain_board self.old) }
@@ -128,7 +128,10 @@ impl<P: Search, S: Spawner> Board<P, S> {
 
     /// Gives the ticket for a cell under a cutoff, with the places that its end needs.
     fn give(&mut self, kind: Kind, cell: Cell, cutoff: Micros) -> Result<Taken, Memory>
-        requires offered { taken_on P.shown (plain_board self.old) ≡ Taken.Ticket (ticket_for (plain_board self.old) kind cell cutoff.0) }
+        requires offered {
+            let board = plain_board self.old in
+            taken_on P.shown board ≡ Taken.Ticket (ticket_for board kind cell cutoff.0)
+        }
         requires running { self.old.stopped ≡ false }
         requires alone { Tickets.has_ticket self.old.live cell ≡ false }
         requires runnable { IsRunnable self.old.problem.rules cell cutoff.0 }

@@ -1,5 +1,5 @@
 -- Lists of runs: rising ones, those that are due at the asks of a search, and what they tell of cells.
-use Rattle.std.specs.Prelude.{ℕ, ◌≡◌, ◌<◌, ◌≤◌, List, [], ◌∷◌, length, Option, Some, None, IsSomeAnd, slice_get}
+use Rattle.std.specs.Prelude.{ℕ, ◌≡◌, ◌<◌, ◌≤◌, List, [], ◌∷◌, Option, Some, None, IsSomeAnd, slice_get}
 use Rattle.objective.specs.Bounds.{Bounds}
 use Rattle.objective.specs.Costs.{Table, penalty}
 use Rattle.objective.specs.declared.Answer.{Answer}
@@ -51,10 +51,6 @@ pub record IsDueFrom (limits : Bounds) (T : Table) (asks : List Question) (first
 abbrev pub AreDueBetween : Bounds → Table → List Question → ℕ → ℕ → List CellRun → Type 0
 AreDueBetween limits T asks first last [] = first ≤ last
 AreDueBetween limits T asks first last (run ∷ runs) = IsDueFrom limits T asks first run (λ number. AreDueBetween limits T asks number last runs)
-
--- each run is due at an ask, and the asks' numbers never fall along the list
-abbrev pub AreDue : Bounds → Table → List Question → List CellRun → Type 0
-AreDue limits T asks runs = AreDueBetween limits T asks 0 (length asks) runs
 
 -- the cost that is known from this evidence
 abbrev pub cost_from : Bounds → Evidence → Option ℕ

@@ -1,13 +1,10 @@
 -- The uncapped procedure: every evaluation is made in full, one run after another
 -- (ParamILS framework, Hutter et al., JAIR 36).
 use Rattle.std.specs.Prelude.{ℕ, List, [], Option, Some, None}
-use Rattle.objective.specs.Bounds.{Bounds}
-use Rattle.objective.specs.Costs.{Table}
 use Rattle.uncapped.specs.Procedure.{Sums, Question, Incumbent, Addition, PlainState, End, Finished, Step, Goes, Ends, Procedure, ◌>>=◌, becomes}
 use Rattle.uncapped.specs.Setup.{Setup}
 use Rattle.uncapped.specs.Evaluation.{measure, after_entry, better_basic, better_focused}
 use Rattle.uncapped.specs.Searching.{search_after}
-use Rattle.uncapped.specs.Totals.{total_cost, quiet}
 
 -- how configurations are compared
 pub data Approach : Type 0 where
@@ -74,7 +71,3 @@ run_after sums (Ends s e) = run_of sums s e
 -- the run of an approach over these sums
 unfoldable pub uncapped : Approach → Setup → Sums → Run
 uncapped approach setup sums = run_after sums (procedure approach setup sums (at_first setup))
-
--- the asks over an outcome table in which each abort counts as unsolved
-abbrev pub asks_of : Approach → Setup → Bounds → Table → List Question
-asks_of approach setup limits T = (uncapped approach setup (total_cost limits (quiet T))).asks

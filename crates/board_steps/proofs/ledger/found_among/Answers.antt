@@ -6,7 +6,7 @@ pub returns-then-i-live : goal.returns-then-i-live
 returns-then-i-live c = found_none c.args.live.now c.args.ticket.now (omega arith)
 
 pub returns-then-is : goal.returns-then-is
-returns-then-is c = found_same c.args.live.now c.args.ticket.now c.place_of-i.result c.index-live-i.result c.place_of-i.ensures.value (omega arith) c.index-live-i.is (sym c.is.ensures ∙ c.if-is.true)
+returns-then-is c = found_same c.args.live.now c.args.ticket.now c.position_of-i.result c.index-live-i.result c.position_of-i.ensures.value (omega arith) c.index-live-i.is (sym c.is.ensures ∙ c.if-is.true)
 
 pub returns-else-is : goal.returns-else-is
-returns-else-is c = found_other c.args.live.now c.args.ticket.now c.place_of-i.result c.index-live-i.result c.place_of-i.ensures.value (omega arith) c.index-live-i.is (sym c.is.ensures ∙ c.if-is.false)
+returns-else-is c = found_other c.args.live.now c.args.ticket.now c.position_of-i.result c.index-live-i.result c.position_of-i.ensures.value (omega arith) c.index-live-i.is (sym c.is.ensures ∙ c.if-is.false)

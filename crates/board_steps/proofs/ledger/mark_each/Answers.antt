@@ -1,6 +1,6 @@
 use Rattle.std.proofs.Common.{arith, ◌<◌, ◌∙◌, length}
 use Rattle.board_steps.specs.Tickets.{all_unwanted}
-use Rattle.board_steps.proofs.Rooms.{marks_live, marks_events, marks_places}
+use Rattle.board_steps.proofs.Rooms.{marks_live, marks_events, marks_room}
 use Rattle.board_steps.proofs.ledger.mark_each.Goals as goal
 
 pub loop-i-preserved : goal.loop-i-preserved
@@ -14,6 +14,6 @@ loop-i-preserved c =
     record {
       live = marks_live all_unwanted xs ys c.loop-i.i x c.mark.new.l within so_far.live c.index_mut.ensures.value c.mark.ensures.marked;
       journal = marks_events all_unwanted xs ys c.loop-i.i x c.args.journal.now.items c.loop-i.journal.items c.mark.new.journal.items within so_far.live c.index_mut.ensures.value so_far.journal c.mark.ensures.journal;
-      places = marks_places ys c.loop-i.i x c.mark.new.l _ _ _ within_now c.index_mut.ensures.value c.mark.ensures.places so_far.places;
+      room = marks_room ys c.loop-i.i x c.mark.new.l _ _ _ within_now c.index_mut.ensures.value c.mark.ensures.room so_far.room;
       capacity = c.mark.ensures.capacity ∙ so_far.capacity;
     }

@@ -1,6 +1,6 @@
 use Rattle.std.proofs.Common.{arith, ◌<◌, ◌∙◌, length}
 use Rattle.board_steps.specs.Tickets.{is_unwanted_beside}
-use Rattle.board_steps.proofs.Rooms.{marks_live, marks_events, marks_places}
+use Rattle.board_steps.proofs.Rooms.{marks_live, marks_events, marks_room}
 use Rattle.board_steps.proofs.ledger.mark_each_unwanted.Goals as goal
 
 pub loop-i-preserved : goal.loop-i-preserved
@@ -12,8 +12,8 @@ loop-i-preserved c =
     let within_now : c.loop-i.i < length ys = grind arith in
     let so_far = c.loop-i.invariant in
     record {
-      live = marks_live (is_unwanted_beside c.args.wishes.now (record { config = c.args.config.now; place = c.args.place }) c.args.cutoff.0) xs ys c.loop-i.i x c.mark_unwanted.new.l within so_far.live c.index_mut.ensures.value c.mark_unwanted.ensures.marked;
-      journal = marks_events (is_unwanted_beside c.args.wishes.now (record { config = c.args.config.now; place = c.args.place }) c.args.cutoff.0) xs ys c.loop-i.i x c.args.journal.now.items c.loop-i.journal.items c.mark_unwanted.new.journal.items within so_far.live c.index_mut.ensures.value so_far.journal c.mark_unwanted.ensures.journal;
-      places = marks_places ys c.loop-i.i x c.mark_unwanted.new.l _ _ _ within_now c.index_mut.ensures.value c.mark_unwanted.ensures.places so_far.places;
+      live = marks_live (is_unwanted_beside c.args.wishes.now c.args.needed.now) xs ys c.loop-i.i x c.mark_unwanted.new.l within so_far.live c.index_mut.ensures.value c.mark_unwanted.ensures.marked;
+      journal = marks_events (is_unwanted_beside c.args.wishes.now c.args.needed.now) xs ys c.loop-i.i x c.args.journal.now.items c.loop-i.journal.items c.mark_unwanted.new.journal.items within so_far.live c.index_mut.ensures.value so_far.journal c.mark_unwanted.ensures.journal;
+      room = marks_room ys c.loop-i.i x c.mark_unwanted.new.l _ _ _ within_now c.index_mut.ensures.value c.mark_unwanted.ensures.room so_far.room;
       capacity = c.mark_unwanted.ensures.capacity ∙ so_far.capacity;
     }

@@ -2,7 +2,7 @@ use Rattle.std.proofs.Common.{◌∙◌, sym, subst}
 use Rattle.objective.specs.Costs.{IsWithin}
 use Rattle.board_steps.specs.Boards.{state_of}
 use Rattle.board_steps.proofs.KeptBoards.{step-answer}
-use Rattle.board_steps.proofs.KeptParts.{IsTold}
+use Rattle.board_steps.specs.AgreeingBoards.{IsTold}
 use Rattle.pool_core.proofs.TicketEnds.{found-some, is-some, ticket-found, live-ticket, record-live, record-marked, record-none, recorded-live, recorded-marked, recorded-none}
 use Rattle.pool_core.proofs.board.Board.record.Goals as goal
 
