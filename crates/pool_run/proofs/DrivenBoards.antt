@@ -31,7 +31,7 @@ use Rattle.board_steps.specs.declared.events.Event.TheVariants.{Take}
 use Rattle.board_steps.specs.declared.tickets.Kind.{Kind}
 use Rattle.board_steps.specs.declared.tickets.Kind.TheVariants.{Asked}
 use Rattle.board_steps.specs.declared.tickets.Ticket.{Ticket}
-use Rattle.board_steps.specs.DueTickets.{IsDueTake, place_taken, places_taken}
+use Rattle.board_steps.specs.DueTickets.{IsDueTake, ask_taken, asks_taken}
 use Rattle.board_steps.specs.JournalRuns.{runs_of}
 use Rattle.board_steps.specs.Ledgers.{take_event}
 use Rattle.board_steps.specs.Problem.{Problem}
@@ -69,13 +69,13 @@ order-last (x ∷ xs) ys order = order-last xs ys (IsNonDecreasingBy-drop (λ n.
 -- ---- the events that took tickets
 
 -- the places of events are those of the ones that took a ticket
-places-takes : (events : List Event) → places_taken events ≡ places_taken (filter is_take events)
+places-takes : (events : List Event) → asks_taken events ≡ asks_taken (filter is_take events)
 places-takes [] = refl
 places-takes (Take number kind cell cutoff asked_at ∷ events) = ap (λ ps. asked_at ∷ ps) (places-takes events)
 places-takes (e ∷ events) = places-takes events
 
 -- those of tickets
-places-tickets : (tickets : List Ticket) → places_taken (map take_event tickets) ≡ map (λ t. t.place) tickets
+places-tickets : (tickets : List Ticket) → asks_taken (map take_event tickets) ≡ map (λ t. t.place) tickets
 places-tickets [] = refl
 places-tickets (t ∷ tickets) = ap (λ ps. t.place ∷ ps) (places-tickets tickets)
 
@@ -99,15 +99,15 @@ due-tickets limits T asks problem (t ∷ tickets) each due =
 -- events at the end of a journal whose runs are due, and which took these tickets
 due-in-order : (limits : Bounds) (T : Table) (asks : List Question) (problem : Problem) (journal events : List Event) (tickets : List Ticket)
     → filter is_take events ≡ map take_event tickets → All (IsAskedTicket problem) tickets
-    → All (IsDueTake limits T asks) (journal ++ events) → IsNonDecreasing (places_taken (journal ++ events)) → AreDueInOrder limits T asks tickets
+    → All (IsDueTake limits T asks) (journal ++ events) → IsNonDecreasing (asks_taken (journal ++ events)) → AreDueInOrder limits T asks tickets
 due-in-order limits T asks problem journal events tickets takes each due order =
     let D = IsDueTake limits T asks in
     let those : All D (map take_event tickets) = subst (All D) takes (All-filter is_take D events (all-last D journal events due)) in
-    let places : places_taken events ≡ map (λ t. t.place) tickets = places-takes events ∙ ap places_taken takes ∙ places-tickets tickets in
-    let parted : IsNonDecreasing (places_taken journal ++ places_taken events) = subst IsNonDecreasing (flat_map-append place_taken journal events) order in
+    let places : asks_taken events ≡ map (λ t. t.place) tickets = places-takes events ∙ ap asks_taken takes ∙ places-tickets tickets in
+    let parted : IsNonDecreasing (asks_taken journal ++ asks_taken events) = subst IsNonDecreasing (flat_map-append ask_taken journal events) order in
     record {
       due = due-tickets limits T asks problem tickets each those;
-      order = subst IsNonDecreasing places (order-last (places_taken journal) (places_taken events) parted);
+      order = subst IsNonDecreasing places (order-last (asks_taken journal) (asks_taken events) parted);
     }
 
 module _ (shown : Rules → List Reply → View) (procedure : Rules → Table → Run) (truth : Option (Key → Outcome)) where
@@ -141,7 +141,7 @@ module _ (shown : Rules → List Reply → View) (procedure : Rules → Table �
             let T = table_of truth board.problem in
             let asks = (quiet_by procedure truth board.problem).asks in
             let due : All (IsDueTake limits T asks) (board.journal ++ made.events) = subst (All (IsDueTake limits T asks)) made.journal (subst P made.problem (inv.due told).due) in
-            let order : IsNonDecreasing (places_taken (board.journal ++ made.events)) = subst (λ es. IsNonDecreasing (places_taken es)) made.journal (inv.due told).order.rising in
+            let order : IsNonDecreasing (asks_taken (board.journal ++ made.events)) = subst (λ es. IsNonDecreasing (asks_taken es)) made.journal (inv.due told).order.rising in
             due-in-order limits T asks board.problem board.journal made.events tickets made.takes made.each due order;
         started = λ e.
             let P : SpawnerTold → Type 0 = λ told. HasStarted program seat.told told (map (λ a. a.ticket.run) made.answered) in

@@ -17,7 +17,7 @@ use Rattle.ils_face.specs.Traces.{IsFinal, question_of}
 use Rattle.ils_face.specs.Views.{View}
 use Rattle.run_cache.specs.declared.cell.Cell.{Cell}
 use Rattle.capping.specs.Decisions.{place_count}
-use Rattle.board_steps.specs.BoardAborts.{IsFirstAborting}
+use Rattle.board_steps.proofs.AbortedBoards.{IsFirstAborting}
 use Rattle.board_steps.specs.BoardVerdicts.{config_of}
 use Rattle.board_steps.specs.Problem.{Problem}
 use Rattle.board_steps.specs.ProblemRuns.{table_of}
