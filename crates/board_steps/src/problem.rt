@@ -42,7 +42,8 @@ impl PartialEq for Problem {
     ghost use Rattle.ils_face.specs.contracts.rules.RulesEq.TheImpl.Laws as rules;
     ghost use Rattle.instance_pairs.specs.contracts.pairs.PairsEq.TheImpl.Laws as pairs;
 
-    ghost eq = { eq_of_both (on (λ p. p.rules) ⟦<Rules as PartialEq>⟧.eq) (on (λ p. p.pairs) ⟦<Pairs as PartialEq>⟧.eq) };
+    ghost eq = { eq_of_both (on (λ p. p.rules) ⟦<Rules as PartialEq>⟧.eq)
+        (on (λ p. p.pairs) ⟦<Pairs as PartialEq>⟧.eq) };
 
     ghost laws = { partial_equiv_from_equiv
         (and_equiv (on_equiv (λ p. p.rules) rules.laws-law) (on_equiv (λ p. p.pairs) pairs.laws-law)) };

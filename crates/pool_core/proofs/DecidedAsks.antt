@@ -16,7 +16,7 @@ use Rattle.board_steps.specs.declared.answers.BoardVerdict.TheVariants as board_
 use Rattle.board_steps.specs.Boards.{BoardState, plain_board}
 use Rattle.board_steps.specs.Numbering.{IsRunnable}
 use Rattle.capping.specs.Decisions.{IfReply, IfNeed}
-use Rattle.board_steps.specs.BoardVerdicts.{asked_cell, config_of, board_verdict_of, verdict_on, wishes_on}
+use Rattle.board_steps.specs.BoardVerdicts.{asked_cell, board_verdict_of, verdict_on, wishes_on}
 use Rattle.board_steps.specs.Steps.{same_wish, with_wishes}
 use Rattle.board_steps.proofs.SameItself.{same_wishes-itself}
 use Rattle.pool_core.specs.DecidedAsks.{IsVerdict, IsDecided}

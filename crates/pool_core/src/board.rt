@@ -15,7 +15,7 @@ ghost use Rattle.pool_core.specs.Endings.{IsEnding, ShowsTruth};
 ghost use Rattle.pool_core.specs.OpenBoards.{IsRunnableAt};
 
 use crate::present_asks::verdict_by;
-use board_steps::{Event, Ledger, BoardVerdict, Problem, Standing, Ticket};
+use board_steps::{BoardVerdict, Event, Ledger, Problem, Standing, Ticket};
 use capping::Verdict;
 use ils_face::{Ask, Search};
 use objective::Memory;

@@ -18,8 +18,6 @@ pub fn keep_knowledge<P: Search>()
     ensures mark { (b : PlainBoard) → KeepsKnowledge b (after_mark P.shown b) }
     ensures stop { (b : PlainBoard) → KeepsKnowledge b (after_stop b) }
     ensures resume { (b : PlainBoard) → KeepsKnowledge b (after_resume b) }
-    ensures unheard {
-        (b : PlainBoard) (ticket : Ticket) (answer : Answer)
-            → IsUnheard (found_in b.live ticket) → after_record b ticket answer ≡ b
-    }
+    ensures unheard { (b : PlainBoard) (ticket : Ticket) (answer : Answer)
+        → IsUnheard (found_in b.live ticket) → after_record b ticket answer ≡ b }
 {}

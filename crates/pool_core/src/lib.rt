@@ -15,6 +15,7 @@ mod take;
 
 pub use board::{Board, Ending};
 pub use board_steps::{
-    Advanced, Event, Kind, LiveTicket, BoardVerdict, Problem, Recorded, Standing, Taken, Ticket, Truth,
+    Advanced, BoardVerdict, Event, Kind, LiveTicket, Problem, Recorded, Standing, Taken, Ticket,
+    Truth,
 };
 pub use knowledge::keep_knowledge;

@@ -64,10 +64,8 @@ pub(crate) fn wishes_now<P: Search>(
     k: u32,
 ) -> Result<Vec<Wish>, Memory>
     requires { cache.now.limits ≡ (P.rules_of search.now).limits }
-    ensures value {
-        let shown = P.shown (P.rules_of search.now) in
-        IfOk result (λ w. w.items ≡ wishes_of shown cache.now.limits (known_in cache.now) (P.replies_of search.now) k)
-    }
+    ensures value { let shown = P.shown (P.rules_of search.now) in
+        IfOk result (λ w. w.items ≡ wishes_of shown cache.now.limits (known_in cache.now) (P.replies_of search.now) k) }
     ensures runnable { IfOk result (λ w. All (λ w. IsRunnable (P.rules_of search.now) w.cell w.cutoff.0) w.items) }
 {
     wishes(alloc, search, cache, k)
@@ -84,11 +82,9 @@ pub(crate) fn wishes_after<P: Search>(
 ) -> Result<Vec<Wish>, Memory>
     requires limits { cache.now.limits ≡ (P.rules_of search.now).limits }
     requires fits { Fits (view_of P.Search search.now).ask reply }
-    ensures value {
-        let shown = P.shown (P.rules_of search.now) in
+    ensures value { let shown = P.shown (P.rules_of search.now) in
         let replies = P.replies_of search.now ++ reply ∷ [] in
-        IfOk result (λ w. w.items ≡ wishes_of shown cache.now.limits (known_in cache.now) replies k)
-    }
+        IfOk result (λ w. w.items ≡ wishes_of shown cache.now.limits (known_in cache.now) replies k) }
     ensures runnable { IfOk result (λ w. All (λ w. IsRunnable (P.rules_of search.now) w.cell w.cutoff.0) w.items) }
 {
     let _ = search.ask(); // it tells what the replies so far are

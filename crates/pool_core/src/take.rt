@@ -11,7 +11,7 @@ ghost use Rattle.pool_core.specs.OpenBoards.{IsRunnableAt, StandsAt};
 
 use crate::board::Board;
 use crate::present_asks::asked_cell;
-use board_steps::{Kind, BoardVerdict, Taken, Ticket, has_cell, has_ticket};
+use board_steps::{BoardVerdict, Kind, Taken, Ticket, has_cell, has_ticket};
 use capping::Verdict;
 use ils_face::Search;
 use objective::{Memory, Micros};
@@ -128,10 +128,8 @@ impl<P: Search, S: Spawner> Board<P, S> {
 
     /// Gives the ticket for a cell under a cutoff, with the places that its end needs.
     fn give(&mut self, kind: Kind, cell: Cell, cutoff: Micros) -> Result<Taken, Memory>
-        requires offered {
-            let board = plain_board self.old in
-            taken_on P.shown board ≡ Taken.Ticket (ticket_for board kind cell cutoff.0)
-        }
+        requires offered { let board = plain_board self.old in
+            taken_on P.shown board ≡ Taken.Ticket (ticket_for board kind cell cutoff.0) }
         requires running { self.old.stopped ≡ false }
         requires alone { Tickets.has_ticket self.old.live cell ≡ false }
         requires runnable { IsRunnable self.old.problem.rules cell cutoff.0 }
