@@ -118,7 +118,11 @@ impl Model for Limits {
 
     ghost invariant = { λ l. AreInRange l.cutoff.0 l.floor.0 };
 
-    ghost inverse = { λ b. record { cutoff = record { 0 = b.cutoff }; factor = b.factor; floor = record { 0 = b.floor } } };
+    ghost inverse = { λ b. record {
+        cutoff = record { 0 = b.cutoff };
+        factor = b.factor;
+        floor = record { 0 = b.floor };
+    } };
 }
 
 impl PartialEq for Limits {
@@ -127,7 +131,11 @@ impl PartialEq for Limits {
     ghost use Rattle.std.specs.Ordering.{on, eq_of_both};
     ghost use Rattle.std.proofs.Common.{rules};
 
-    ghost eq = { eq_of_both (on (λ l. l.cutoff) nat_eq) (eq_of_both (on (λ l. l.factor) ⟦<Factor as PartialEq>⟧.eq) (on (λ l. l.floor) nat_eq)) };
+    ghost eq = {
+        eq_of_both
+            (on (λ l. l.cutoff) nat_eq)
+            (eq_of_both (on (λ l. l.factor) ⟦<Factor as PartialEq>⟧.eq) (on (λ l. l.floor) nat_eq))
+    };
 
     ghost laws = { Prim.search (comparing, rules) };
 

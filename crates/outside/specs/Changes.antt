@@ -5,6 +5,7 @@ use Rattle.outside.specs.declared.faults.Fault.TheVariants.{Failed, Memory}
 use Rattle.outside.specs.declared.faults.Fail.{Fail}
 use Rattle.outside.specs.declared.faults.Poll.{Poll}
 use Rattle.outside.specs.declared.faults.Poll.TheVariants.{Pending, Ended}
+use Rattle.outside.specs.ToldStates.{SpawnerTold}
 use Rattle.wrapper_lines.specs.declared.runs.Run.{Run}
 
 -- the call failed, and not for want of memory
@@ -40,6 +41,10 @@ abbrev pub failed_after : Bool → Option Run → Option Run → Option Run
 failed_after true run before = run
 failed_after false run before = before
 
+-- the run of the last start or look that failed, after a start of this run
+abbrev pub failed_after_start : {A : Type 0} → Result A Fault → Run → SpawnerTold → Option Run
+failed_after_start result run before = failed_after (has_failed result) (Some run) before.failed_run
+
 -- the look found that the child had ended
 abbrev pub has_ended : Result Poll Fail → Bool
 has_ended (Ok Pending) = false
@@ -50,3 +55,7 @@ has_ended (Err _) = false
 abbrev pub has_look_failed : Result Poll Fail → Bool
 has_look_failed (Ok _) = false
 has_look_failed (Err _) = true
+
+-- the run of the last start or look that failed, after a look at the current run
+abbrev pub failed_after_look : Result Poll Fail → SpawnerTold → Option Run
+failed_after_look found before = failed_after (has_look_failed found) before.current before.failed_run

@@ -5,10 +5,10 @@ use Rattle.objective.specs.declared.Outcome.{Outcome}
 use Rattle.outside.specs.AnswerLines.{answer_line}
 use Rattle.outside.specs.Changes.{failed_after, has_ended, has_look_failed}
 use Rattle.outside.specs.Counts.{count_after}
+use Rattle.outside.specs.ReadOutputs.{ReadsAs}
 use Rattle.outside.specs.ToldStates.{SpawnerTold}
 use Rattle.outside.specs.declared.faults.Fail.{Fail}
 use Rattle.outside.specs.declared.faults.Poll.{Poll}
-use Rattle.wrapper_lines.specs.ResultLines.{answer_of}
 use Rattle.wrapper_lines.specs.declared.runs.Key.{Key}
 use Rattle.wrapper_lines.specs.declared.runs.Run.{Run}
 
@@ -47,4 +47,4 @@ child_after_look found c = record c {
 -- the child writes the result line that shows its run's outcome, which is read as that
 pub record Shows (outcome : Key → Outcome) (c : ChildState) : Type 0 where
   pub line : IfSome c.told.current (λ run. c.output ≡ answer_line (seen (outcome run.key) run.cutoff.0))
-  pub reads : IfSome c.told.current (λ run. answer_of c.output run.cutoff.0 ≡ seen (outcome run.key) run.cutoff.0)
+  pub reads : ReadsAs outcome c.told.current c.output

@@ -1,5 +1,5 @@
 -- What contracts see of a sink in memory.
-use Rattle.std.specs.Prelude.{ℕ, Bool, List, length, if◌then◌else◌}
+use Rattle.std.specs.Prelude.{ℕ, Bool, List, [], length, if◌then◌else◌}
 use Rattle.outside.specs.Counts.{next_count, is_among}
 
 pub record SinkState : Type 0 where
@@ -9,6 +9,10 @@ pub record SinkState : Type 0 where
   pub writes : ℕ  -- how many writes there were
   pub faults : ℕ  -- how many writes have failed
   pub empties : ℕ  -- how many writes of a piece that isn't empty took nothing
+
+-- a sink that has taken nothing
+abbrev pub first_sink : SinkState
+first_sink = record { bytes = []; bad_writes = []; empty_writes = []; writes = 0; faults = 0; empties = 0 }
 
 -- the write after these fails
 abbrev pub is_bad_write : SinkState → Bool

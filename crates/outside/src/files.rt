@@ -14,7 +14,8 @@ pub trait Files {
     /// Reads a whole file. Where the contents are told, a name that isn't there fails.
     fn read(&mut self, name: &str) -> Result<Vec<u8>, Fault>
         ensures same { (told self.new).contents ≡ (told self.old).contents }
-        ensures given { IfOk result (λ bytes. IfSome (told self.old).contents (λ named. named name.now ≡ Some bytes.items)) }
+        ensures given { let contents = (told self.old).contents in
+            IfOk result (λ bytes. IfSome contents (λ named. named name.now ≡ Some bytes.items)) }
         ensures counted { (told self.new).faults ≡ count_after (has_failed result) (told self.old).faults }
         ensures counts { (told self.old).faults ≤ (told self.new).faults };
 }

@@ -19,7 +19,10 @@ impl Model for LastRuns {
 
     ghost Value = { runs.LastRuns };
 
-    ghost view = { λ r. record { current = r.current; failed_run = if r.has_failed then r.current else r.failed_before } };
+    ghost view = { λ r. record {
+      current = r.current;
+      failed_run = if r.has_failed then r.current else r.failed_before;
+    } };
 }
 
 impl LastRuns {
@@ -37,7 +40,8 @@ impl LastRuns {
     /// Takes this as the run that was started last, and says whether its start failed.
     /// Takes no memory.
     pub fn begin(&mut self, run: Run, has_failed: bool)
-        ensures { self.new ≡ record { current = Some run; failed_run = failed_after has_failed (Some run) self.old.failed_run } }
+        ensures { let failed_run = failed_after has_failed (Some run) self.old.failed_run in
+            self.new ≡ record { current = Some run; failed_run = failed_run } }
     {
         if self.has_failed {
             self.failed_before = self.current.take();

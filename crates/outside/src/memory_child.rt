@@ -26,7 +26,18 @@ impl Model for MemoryChild {
 
     ghost Value = { ChildState };
 
-    ghost view = { λ c. record { told = record { idle = c.is_idle; held = c.is_held; current = c.runs.current; failed_run = c.runs.failed_run; started = None; folders = None; faults = c.faults }; output = c.output } };
+    ghost view = { λ c. record {
+      told = record {
+        idle = c.is_idle;
+        held = c.is_held;
+        current = c.runs.current;
+        failed_run = c.runs.failed_run;
+        started = None;
+        folders = None;
+        faults = c.faults;
+      };
+      output = c.output;
+    } };
 }
 
 impl MemoryChild {

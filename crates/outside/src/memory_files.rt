@@ -1,6 +1,6 @@
 //! Files in memory.
 ghost use Rattle.std.specs.Prelude.{◌≡◌, List, ℕ, [], ◌∷◌, ◌++◌, Some, OnOk, OnErr, option_map, bytes_eq, if◌then◌else◌};
-ghost use Rattle.outside.specs.Folders.{bytes_of};
+ghost use Rattle.outside.specs.Folders.{bytes_of, with_file, bytes_after};
 
 use crate::faults::Fault;
 use crate::files::Files;
@@ -32,7 +32,12 @@ impl Model for MemoryFiles {
 
     ghost Value = { Folder };
 
-    ghost view = { λ m. record { files = m.files.items; bad_reads = m.bad_reads.items; reads = m.reads; faults = m.faults } };
+    ghost view = { λ m. record {
+      files = m.files.items;
+      bad_reads = m.bad_reads.items;
+      reads = m.reads;
+      faults = m.faults;
+    } };
 }
 
 /// The bytes of the first file with this name.
@@ -59,9 +64,10 @@ impl MemoryFiles {
 
     /// Gives the name these bytes. Each other name has what it had.
     pub fn put(&mut self, name: &str, bytes: &[u8]) -> Result<(), Memory>
-        ensures ok { OnOk result (self.new ≡ record self.old { files = record { name = name.now; bytes = bytes.now } ∷ self.old.files }) }
+        ensures ok { OnOk result (self.new ≡ with_file self.old name.now bytes.now) }
         ensures err { OnErr result (self.new ≡ self.old) }
-        ensures named { OnOk result ((other : List ℕ) → bytes_of self.new.files other ≡ (if bytes_eq name.now other then Some bytes.now else bytes_of self.old.files other)) }
+        ensures named { let had = bytes_after self.old name.now bytes.now in
+            OnOk result ((other : List ℕ) → bytes_of self.new.files other ≡ had other) }
     {
         let name = Text::of(self.alloc, name)?;
         let bytes = Items::new(Vec::from_slice(self.alloc, bytes)?);
@@ -98,7 +104,8 @@ impl Files for MemoryFiles {
     /// there is no memory left.
     fn read(&mut self, name: &str) -> Result<Vec<u8>, Fault>
         ensures failing { FailsWhere (is_unreadable self.old name.now) result }
-        ensures change { self.new ≡ record self.old { reads = next_count self.old.reads; faults = count_after (has_failed result) self.old.faults } }
+        ensures change { let faults = count_after (has_failed result) self.old.faults in
+            self.new ≡ record self.old { reads = next_count self.old.reads; faults = faults } }
         ensures same { Some (bytes_of self.new.files) ≡ Some (bytes_of self.old.files) }
         ensures given { IfOk result (λ bytes. bytes_of self.old.files name.now ≡ Some bytes.items) }
         ensures counted { self.new.faults ≡ count_after (has_failed result) self.old.faults }

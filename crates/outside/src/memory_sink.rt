@@ -1,5 +1,6 @@
 //! A sink in memory.
 ghost use Rattle.std.specs.Prelude.{◌≡◌, [], ◌∷◌, ◌++◌, OnOk, OnErr};
+ghost use Rattle.outside.specs.SinkState.{first_sink};
 
 use crate::faults::Fault;
 use crate::numbers::has_number;
@@ -24,13 +25,20 @@ impl Model for MemorySink {
 
     ghost Value = { SinkState };
 
-    ghost view = { λ s. record { bytes = s.bytes.items; bad_writes = s.bad_writes.items; empty_writes = s.empty_writes.items; writes = s.writes; faults = s.faults; empties = s.empties } };
+    ghost view = { λ s. record {
+      bytes = s.bytes.items;
+      bad_writes = s.bad_writes.items;
+      empty_writes = s.empty_writes.items;
+      writes = s.writes;
+      faults = s.faults;
+      empties = s.empties;
+    } };
 }
 
 impl MemorySink {
     /// A sink that has taken nothing. Takes no memory.
     pub fn new(alloc: Global) -> MemorySink
-        ensures { result ≡ record { bytes = []; bad_writes = []; empty_writes = []; writes = 0; faults = 0; empties = 0 } }
+        ensures { result ≡ first_sink }
     {
         MemorySink {
             bytes: Vec::new(alloc),

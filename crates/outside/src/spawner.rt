@@ -1,12 +1,11 @@
 //! Children.
-ghost use Rattle.std.specs.Prelude.{◌≡◌, ◌≤◌, IsTrue, not, false, Option, Some, OnOk, IfSome, is_ok, ◌||◌};
-ghost use Rattle.objective.specs.Costs.{seen};
+ghost use Rattle.std.specs.Prelude.{◌≡◌, ◌≤◌, IsTrue, not, false, Option, Some, OnOk, is_ok, ◌||◌};
 ghost use Rattle.objective.specs.declared.Outcome.{Outcome};
 ghost use Rattle.outside.specs.Counts.{count_after};
-ghost use Rattle.outside.specs.Changes.{has_failed, has_ended, has_look_failed, started_after, failed_after};
-ghost use Rattle.wrapper_lines.specs.ResultLines.{answer_of};
+ghost use Rattle.outside.specs.Changes.{has_failed, has_ended, has_look_failed, started_after, failed_after_start, failed_after_look};
 ghost use Rattle.wrapper_lines.specs.Runs.{AreWordsOf};
 ghost use Rattle.wrapper_lines.specs.declared.runs.Key.{Key};
+ghost use Rattle.outside.specs.ReadOutputs.{ReadsAs};
 ghost use Rattle.outside.specs.ToldStates.{SpawnerTold};
 
 use crate::faults::{Fail, Fault, Poll};
@@ -32,7 +31,7 @@ pub trait Spawner: Drop {
         ensures held { (told self.new).held ≡ false }
         ensures started { (told self.new).started ≡ started_after result (told self.old).started words.now }
         ensures folders { (told self.new).folders ≡ started_after result (told self.old).folders dir.now }
-        ensures failed_run { (told self.new).failed_run ≡ failed_after (has_failed result) (Some run.now) (told self.old).failed_run }
+        ensures failed_run { (told self.new).failed_run ≡ failed_after_start result run.now (told self.old) }
         ensures counted { (told self.new).faults ≡ count_after (has_failed result) (told self.old).faults }
         ensures counts { (told self.old).faults ≤ (told self.new).faults };
 
@@ -45,7 +44,7 @@ pub trait Spawner: Drop {
         ensures idle { (told self.new).idle ≡ (has_ended result || has_look_failed result) }
         ensures started { (told self.new).started ≡ (told self.old).started }
         ensures folders { (told self.new).folders ≡ (told self.old).folders }
-        ensures failed_run { (told self.new).failed_run ≡ failed_after (has_look_failed result) (told self.old).current (told self.old).failed_run }
+        ensures failed_run { (told self.new).failed_run ≡ failed_after_look result (told self.old) }
         ensures counted { (told self.new).faults ≡ count_after (has_look_failed result) (told self.old).faults }
         ensures counts { (told self.old).faults ≤ (told self.new).faults };
 
@@ -53,7 +52,7 @@ pub trait Spawner: Drop {
     /// truth shows under the run's cutoff.
     fn output(&self) -> &[u8]
         requires { IsTrue (told self.now).held }
-        ensures { (outcome : Key → Outcome) → truth ≡ Some outcome → IfSome (told self.now).current (λ run. answer_of result.now run.cutoff.0 ≡ seen (outcome run.key) run.cutoff.0) };
+        ensures { (outcome : Key → Outcome) → truth ≡ Some outcome → ReadsAs outcome (told self.now).current result.now };
 
     /// Kills the child and waits for its end. It can't be refused.
     fn kill(&mut self)

@@ -33,7 +33,10 @@ impl<T: Table> Model for TableSeat<T> {
 
     ghost Value = { Seat };
 
-    ghost view = { λ s. record { told = record s.child.told { started = Some s.started.items; folders = Some s.folders.items }; course = s.course } };
+    ghost view = { λ s. record {
+      told = record s.child.told { started = Some s.started.items; folders = Some s.folders.items };
+      course = s.course;
+    } };
 
     ghost invariant = { λ s. Shows T.outcome s.child };
 }
@@ -78,7 +81,7 @@ impl<T: Table> TableSeat<T> {
 
 impl<T: Table> Spawner for TableSeat<T> {
     ghost use Rattle.std.specs.Prelude.{◌≡◌, ◌≤◌, IsTrue, not, false, Some, OnOk, is_ok, ◌||◌};
-    ghost use Rattle.outside.specs.Changes.{has_failed, has_ended, has_look_failed, started_after, failed_after, FailsWhere};
+    ghost use Rattle.outside.specs.Changes.{has_failed, has_ended, has_look_failed, started_after, failed_after_start, failed_after_look, FailsWhere};
     ghost use Rattle.outside.specs.Counts.{count_after};
     ghost use Rattle.wrapper_lines.specs.Runs.{AreWordsOf};
     ghost use Rattle.outside.specs.Courses.{after_look, is_bad_start, is_bad_look, is_ended};
@@ -99,7 +102,7 @@ impl<T: Table> Spawner for TableSeat<T> {
         ensures held { self.new.told.held ≡ false }
         ensures started { self.new.told.started ≡ started_after result self.old.told.started words.now }
         ensures folders { self.new.told.folders ≡ started_after result self.old.told.folders dir.now }
-        ensures failed_run { self.new.told.failed_run ≡ failed_after (has_failed result) (Some run.now) self.old.told.failed_run }
+        ensures failed_run { self.new.told.failed_run ≡ failed_after_start result run.now self.old.told }
         ensures counted { self.new.told.faults ≡ count_after (has_failed result) self.old.told.faults }
         ensures counts { self.old.told.faults ≤ self.new.told.faults }
     {
@@ -131,7 +134,7 @@ impl<T: Table> Spawner for TableSeat<T> {
         ensures idle { self.new.told.idle ≡ (has_ended result || has_look_failed result) }
         ensures started { self.new.told.started ≡ self.old.told.started }
         ensures folders { self.new.told.folders ≡ self.old.told.folders }
-        ensures failed_run { self.new.told.failed_run ≡ failed_after (has_look_failed result) self.old.told.current self.old.told.failed_run }
+        ensures failed_run { self.new.told.failed_run ≡ failed_after_look result self.old.told }
         ensures counted { self.new.told.faults ≡ count_after (has_look_failed result) self.old.told.faults }
         ensures counts { self.old.told.faults ≤ self.new.told.faults }
     {

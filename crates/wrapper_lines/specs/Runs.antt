@@ -7,15 +7,26 @@ use Rattle.wrapper_lines.specs.declared.runs.Program.{Program}
 use Rattle.wrapper_lines.specs.declared.runs.Setting.{Setting}
 use Rattle.wrapper_lines.specs.declared.runs.Run.{Run}
 
+-- those of the texts that aren't empty
+abbrev pub filled : List (List ℕ) → List (List ℕ)
+filled texts = filter (λ text. nat_lt 0 (length text)) texts
+
+-- the parts of a text between its tabs
+abbrev pub tab_parts : List ℕ → List (List ℕ)
+tab_parts text = slice_split (λ b. b == 9) text
+
 -- the longest parts of a text without spaces and tabs
 abbrev pub program_words : List ℕ → List (List ℕ)
-program_words text =
-    filter (λ word. nat_lt 0 (length word)) (flat_map (slice_split (λ b. b == 9)) (slice_split (λ b. b == 32) text))
+program_words text = filled (flat_map tab_parts (slice_split (λ b. b == 32) text))
 
 -- `-name` and the value of each setting
 abbrev pub setting_words : List Setting → List (List ℕ)
 setting_words [] = []
 setting_words (s ∷ later) = (codes "-" ++ s.name) ∷ s.value ∷ setting_words later
+
+-- the instance, its specifics and the cutoff in seconds
+abbrev pub instance_words : Run → List (List ℕ)
+instance_words run = run.key.instance ∷ run.key.specifics ∷ seconds run.cutoff.0 ∷ []
 
 -- the program's words, the instance, its specifics, the cutoff in seconds, the cutoff length, the seed, the settings
 abbrev pub words_of : Program → Run → List (List ℕ)

@@ -110,7 +110,7 @@ pub fn copy_texts(alloc: Global, texts: &[Text]) -> Result<Vec<Text>, Memory>
 
 /// Appends a word, where it isn't empty.
 fn push_word(alloc: Global, words: &mut Vec<Text>, word: &str) -> Result<(), Memory>
-    ensures { OnOk result (words.new.items ≡ words.old.items ++ filter (λ word. nat_lt 0 (length word)) (word.now ∷ [])) }
+    ensures { OnOk result (words.new.items ≡ words.old.items ++ Runs.filled (word.now ∷ [])) }
 {
     if !word.is_empty() {
         words.push(Text::of(alloc, word)?)?;
@@ -120,7 +120,7 @@ fn push_word(alloc: Global, words: &mut Vec<Text>, word: &str) -> Result<(), Mem
 
 /// Appends the longest parts of a text without tabs.
 fn push_tab_parted(alloc: Global, words: &mut Vec<Text>, text: &str) -> Result<(), Memory>
-    ensures { OnOk result (words.new.items ≡ words.old.items ++ filter (λ word. nat_lt 0 (length word)) (slice_split (λ b. b == 9) text.now)) }
+    ensures { OnOk result (words.new.items ≡ words.old.items ++ Runs.filled (Runs.tab_parts text.now)) }
 {
     let parts = pieces(alloc, text, '\t')?;
     for part in &parts {
@@ -138,7 +138,8 @@ pub fn read_program(
     cutoff_length: u32,
 ) -> Result<Program, Memory>
     requires { list_all is_blank algo.now ≡ false }
-    ensures { IfOk result (λ p. p ≡ record { words = Runs.program_words algo.now; dir = dir.now; cutoff_length = cutoff_length }) }
+    ensures { let words = Runs.program_words algo.now in
+        IfOk result (λ p. p ≡ record { words = words; dir = dir.now; cutoff_length = cutoff_length }) }
 {
     let mut words = Vec::new(alloc);
     let parts = pieces(alloc, algo, ' ')?;
@@ -174,7 +175,7 @@ fn push_settings(alloc: Global, words: &mut Vec<Text>, settings: &[Setting]) -> 
 
 /// Appends the instance, its specifics and the cutoff in seconds.
 fn push_instance(alloc: Global, words: &mut Vec<Text>, run: &Run) -> Result<(), Memory>
-    ensures { OnOk result (words.new.items ≡ words.old.items ++ run.now.key.instance ∷ run.now.key.specifics ∷ seconds run.now.cutoff.0 ∷ []) }
+    ensures { OnOk result (words.new.items ≡ words.old.items ++ Runs.instance_words run.now) }
 {
     words.push(run.key.instance.copy()?)?;
     words.push(run.key.specifics.copy()?)?;
