@@ -1,5 +1,5 @@
 -- The rules of a parameter space, and the first one that lists break.
-use Rattle.std.specs.Prelude.{ℕ, ◌+◌, ◌≡◌, ◌==◌, Bool, true, false, not, ◌&&◌, List, [], ◌∷◌, ◌++◌, Option, Some, None, nat_lt, nat_le, length, map, bytes_eq}
+use Rattle.std.specs.Prelude.{ℕ, ◌+◌, ◌≡◌, ◌==◌, Bool, true, false, not, ◌&&◌, List, [], ◌∷◌, ◌++◌, Option, Some, None, IfSome, nat_lt, nat_le, length, map, bytes_eq}
 use Rattle.std.specs.List.{list_any, list_all}
 use Rattle.plain_text.specs.Words.{is_word}
 use Rattle.plain_text.specs.Texts.{differ, texts_differ}
@@ -162,3 +162,7 @@ pub record IsSpace (lists : Lists) : Type 0 where
 abbrev pub breach_of : SpaceFault → Option Breach
 breach_of (At part place what) = Some (record { part = part; place = place; what = what })
 breach_of Memory = None
+
+-- the breach that a fault tells of is the one that is found
+abbrev pub IsBreach : SpaceFault → Option Breach → Type 0
+IsBreach fault found = IfSome (breach_of fault) (λ breach. found ≡ Some breach)

@@ -1,5 +1,5 @@
 -- A configuration as names and values, and as the text that is printed.
-use Rattle.std.specs.Prelude.{ℕ, ◌+◌, ◌==◌, Bool, List, [], ◌∷◌, ◌++◌, length, codes, if◌then◌else◌}
+use Rattle.std.specs.Prelude.{ℕ, ◌+◌, ◌==◌, Bool, false, List, [], ◌∷◌, ◌++◌, length, codes, if◌then◌else◌}
 use Rattle.std.specs.List.{slice_index_or}
 use Rattle.param_space.specs.declared.lists.Param.{Param}
 use Rattle.param_space.specs.declared.settings.NamedValue.{NamedValue}
@@ -21,6 +21,10 @@ at_places passes place (x ∷ later) =
 -- each active parameter's name and its value, in the order of the space
 abbrev pub active_values : Lists → List ℕ → List (List ℕ × List ℕ)
 active_values lists config = at_places (is_active lists config) 0 (named_values lists.params config)
+
+-- the name and the value of each marked parameter, in the order of the space
+abbrev pub marked_values : List Param → List ℕ → List Bool → List (List ℕ × List ℕ)
+marked_values params values marks = at_places (λ p. slice_index_or marks p false) 0 (named_values params values)
 
 -- a name and a value as contracts see them
 abbrev pub name_and_value : NamedValue → List ℕ × List ℕ

@@ -1,12 +1,10 @@
 //! Which parameters are active in a configuration, and what it forbids.
-ghost use Rattle.std.specs.Prelude.{ℕ, suc, All, ◌≡◌, ◌==◌, ◌<◌, ◌≤◌, ◌&&◌, not, false, [], ◌∷◌, length, slice_index_or};
+ghost use Rattle.std.specs.Prelude.{suc, All, ◌≡◌, ◌<◌, ◌≤◌, length};
 ghost use Rattle.std.specs.List.{list_any};
 ghost use Rattle.param_space.specs.Configurations.{is_active_within};
 ghost use Rattle.param_space.specs.Limits;
 ghost use Rattle.param_space.specs.Ancestors.{IsNamed, IsAcyclic};
-ghost use Rattle.param_space.specs.Faults.{first_in, first_broken};
-ghost use Rattle.param_space.specs.declared.lists.SpaceWhat.TheVariants.{DefaultForbidden};
-ghost use Rattle.param_space.specs.Marks.{is_marked_by, ArePicksNamed};
+ghost use Rattle.param_space.specs.Marks.{AreMarksOf, is_met_by, is_marked_by, marked_clause_fault, ArePicksNamed};
 ghost use Rattle.param_space.specs.Order.{IsOrder};
 
 use crate::limits::MAX_PARAMS;
@@ -17,7 +15,7 @@ use crate::marks::Marks;
 fn is_met(condition: &Condition, values: &[u16], active: &Marks) -> bool
     requires value { condition.now.parent < length values.now }
     requires mark { condition.now.parent < length active.now }
-    ensures { result ≡ list_any (λ v. slice_index_or values.now condition.now.parent 0 == v) condition.now.values && slice_index_or active.now condition.now.parent false }
+    ensures { result ≡ is_met_by active.now values.now condition.now }
 {
     let parent = usize::from(condition.parent);
     condition.values.as_slice().contains(&values[parent]) && active[parent]
@@ -31,7 +29,7 @@ pub fn activity(conditions: &[Condition], order: &[u32], values: &[u16]) -> Mark
     requires acyclic { IsAcyclic (length values.now) conditions.now }
     requires few { length values.now ≤ Limits.max_params }
     ensures size { length result ≡ Limits.max_params }
-    ensures value { (p : ℕ) → p < Limits.max_params → slice_index_or result p false ≡ is_active_within (suc (length values.now)) conditions.now values.now p }
+    ensures value { AreMarksOf (is_active_within (suc (length values.now)) conditions.now values.now) result }
 {
     let mut active = [true; MAX_PARAMS];
     for i in order {
@@ -78,7 +76,7 @@ pub fn forbidding_fault(forbidden: &[Forbidden], values: &[u16], active: &Marks)
     requires few { length forbidden.now ≤ Limits.max_clauses }
     requires named { All (ArePicksNamed (length values.now)) forbidden.now }
     requires sizes { length values.now ≤ length active.now }
-    ensures { result ≡ first_in Part.Forbidden (λ _ f. first_broken ((not (is_marked_by active.now values.now f), DefaultForbidden) ∷ [])) 0 forbidden.now }
+    ensures { result ≡ marked_clause_fault active.now values.now forbidden.now }
 {
     for (i, clause) in forbidden.iter().enumerate() {
         if forbids(clause, values, active) {

@@ -1,13 +1,11 @@
 //! Which parameters depend on which, and an order of conditions in which a parameter's own
 //! stand before those of the parameters that depend on it.
-ghost use Rattle.std.specs.Prelude.{ℕ, All, ◌≡◌, ◌==◌, ◌<◌, ◌≤◌, ◌&&◌, ◌||◌, false, not, [], ◌∷◌, length, slice_index, slice_index_or, IfOk};
-ghost use Rattle.std.specs.List.{list_any};
+ghost use Rattle.std.specs.Prelude.{ℕ, All, ◌≡◌, ◌<◌, ◌≤◌, false, length, slice_index, slice_index_or, IfOk};
 ghost use Rattle.param_space.specs.Limits;
 ghost use Rattle.param_space.specs.Ancestors;
-ghost use Rattle.param_space.specs.Ancestors.{IsNamed, is_ancestor_within, rank};
-ghost use Rattle.param_space.specs.Faults.{first_in, first_broken};
+ghost use Rattle.param_space.specs.Ancestors.{IsNamed, AreRanks, is_ancestor_within, is_own_ancestor};
+ghost use Rattle.param_space.specs.Marks.{AreMarksOf, is_parent_of, marked_child_fault};
 ghost use Rattle.param_space.specs.Order.{IsOrder};
-ghost use Rattle.param_space.specs.declared.lists.SpaceWhat.TheVariants.{Cycle};
 
 use crate::limits::MAX_PARAMS;
 use crate::lists::{Breach, Condition, Part, SpaceWhat};
@@ -20,7 +18,7 @@ fn next_generation(conditions: &[Condition], param: u16, known: &Marks) -> Marks
     requires named { All (IsNamed Limits.max_params) conditions.now }
     requires size { length known.now ≡ Limits.max_params }
     ensures size { length result ≡ Limits.max_params }
-    ensures value { (a : ℕ) → a < Limits.max_params → slice_index_or result a false ≡ list_any (λ c. (c.parent == a) && ((c.child == param) || slice_index_or known.now c.child false)) conditions.now }
+    ensures value { AreMarksOf (is_parent_of conditions.now param known.now) result }
 {
     let mut next = [false; MAX_PARAMS];
     for condition in conditions {
@@ -34,7 +32,7 @@ fn next_generation(conditions: &[Condition], param: u16, known: &Marks) -> Marks
 fn ancestors(conditions: &[Condition], count: usize, param: u16) -> Marks
     requires { All (IsNamed Limits.max_params) conditions.now }
     ensures size { length result ≡ Limits.max_params }
-    ensures value { (a : ℕ) → a < Limits.max_params → slice_index_or result a false ≡ is_ancestor_within count conditions.now param a }
+    ensures value { AreMarksOf (is_ancestor_within count conditions.now param) result }
 {
     let mut known = [false; MAX_PARAMS];
     for _generation in 0..count {
@@ -69,8 +67,8 @@ pub fn ancestry_of(conditions: &[Condition], count: usize) -> Ancestry
     requires named { All (IsNamed count) conditions.now }
     requires few { count ≤ Limits.max_params }
     ensures sizes { (length result.ranks ≡ Limits.max_params) × (length result.own ≡ Limits.max_params) }
-    ensures ranks { (p : ℕ) → p < count → slice_index result.ranks p ≡ rank count conditions.now p }
-    ensures own { (p : ℕ) → p < count → slice_index_or result.own p false ≡ is_ancestor_within count conditions.now p p }
+    ensures ranks { AreRanks count conditions.now result.ranks }
+    ensures own { (p : ℕ) → p < count → slice_index_or result.own p false ≡ is_own_ancestor count conditions.now p }
 {
     let mut ranks = [0; MAX_PARAMS];
     let mut own = [false; MAX_PARAMS];
@@ -107,7 +105,7 @@ pub fn cycle_fault(conditions: &[Condition], own: &Marks) -> Option<Breach>
     requires few { length conditions.now ≤ Limits.max_conditions }
     requires named { All (IsNamed Limits.max_params) conditions.now }
     requires size { length own.now ≡ Limits.max_params }
-    ensures { result ≡ first_in Part.Condition (λ _ c. first_broken ((not (slice_index_or own.now c.child false), Cycle) ∷ [])) 0 conditions.now }
+    ensures { result ≡ marked_child_fault own.now conditions.now }
 {
     for (i, condition) in conditions.iter().enumerate() {
         if own[usize::from(condition.child)] {

@@ -1,10 +1,10 @@
 //! Whether lists make a space.
-ghost use Rattle.std.specs.Prelude.{ℕ, ◌≡◌, ◌<◌, ◌≤◌, slice_index, Some, None, All, length, IfOk, IfErr, IfSome, OnOk};
+ghost use Rattle.std.specs.Prelude.{◌≡◌, ◌≤◌, None, All, length, IfOk, IfErr, OnOk};
 ghost use Rattle.param_space.specs.Limits;
 ghost use Rattle.param_space.specs.Space.{space_lists};
-ghost use Rattle.param_space.specs.Ancestors.{IsNamed, IsAcyclic, rank};
+ghost use Rattle.param_space.specs.Ancestors.{IsNamed, IsAcyclic, AreRanks};
 ghost use Rattle.param_space.specs.Faults;
-ghost use Rattle.param_space.specs.Faults.{whole_fault, space_fault, breach_of, AreFaultless, IsSpace};
+ghost use Rattle.param_space.specs.Faults.{whole_fault, space_fault, IsBreach, AreFaultless, IsSpace};
 ghost use Rattle.param_space.specs.Marks.{ArePicksNamed};
 ghost use Rattle.param_space.specs.Order.{IsOrder};
 
@@ -67,10 +67,11 @@ fn allowed_order(
     requires faultless { AreFaultless (space_lists params.now conditions.now forbidden.now) }
     requires acyclic { IsAcyclic (length params.now) conditions.now }
     requires size { length ranks.now ≡ Limits.max_params }
-    requires ranked { (p : ℕ) → p < length params.now → slice_index ranks.now p ≡ rank (length params.now) conditions.now p }
+    requires ranked { AreRanks (length params.now) conditions.now ranks.now }
     ensures order { IfOk result (λ v. IsOrder conditions.now v.items) }
     ensures allowed { OnOk result (Faults.default_fault (space_lists params.now conditions.now forbidden.now) ≡ None) }
-    ensures fault { IfErr result (λ e. IfSome (breach_of e) (λ b. Faults.default_fault (space_lists params.now conditions.now forbidden.now) ≡ Some b)) }
+    ensures fault { let lists = space_lists params.now conditions.now forbidden.now in
+        IfErr result (λ e. IsBreach e (Faults.default_fault lists)) }
 {
     let order = ranked_order(alloc, conditions, ranks)?;
     match default_fault(alloc, params, conditions, order.as_slice(), forbidden)? {
@@ -90,7 +91,8 @@ fn whole_order(
     requires { AreFaultless (space_lists params.now conditions.now forbidden.now) }
     ensures order { IfOk result (λ v. IsOrder conditions.now v.items) }
     ensures space { OnOk result (IsSpace (space_lists params.now conditions.now forbidden.now)) }
-    ensures fault { IfErr result (λ e. IfSome (breach_of e) (λ b. whole_fault (space_lists params.now conditions.now forbidden.now) ≡ Some b)) }
+    ensures fault { let lists = space_lists params.now conditions.now forbidden.now in
+        IfErr result (λ e. IsBreach e (whole_fault lists)) }
 {
     let found = ancestry_of(conditions, params.len());
     match cycle_fault(conditions, &found.own) {
@@ -108,7 +110,8 @@ pub fn checked_order(
 ) -> Result<Vec<u32>, SpaceFault>
     ensures order { IfOk result (λ v. IsOrder conditions.now v.items) }
     ensures space { OnOk result (IsSpace (space_lists params.now conditions.now forbidden.now)) }
-    ensures fault { IfErr result (λ e. IfSome (breach_of e) (λ b. space_fault (space_lists params.now conditions.now forbidden.now) ≡ Some b)) }
+    ensures fault { let lists = space_lists params.now conditions.now forbidden.now in
+        IfErr result (λ e. IsBreach e (space_fault lists)) }
 {
     match lists_fault(alloc, params, conditions, forbidden)? {
         Some(breach) => Err(breach.fault()),

@@ -1,7 +1,8 @@
 //! The settings of a configuration, and their text.
-ghost use Rattle.std.specs.Prelude.{◌≡◌, ◌≤◌, false, length, map, slice_index_or, IfOk, OnOk};
+ghost use Rattle.std.specs.Prelude.{◌≡◌, ◌≤◌, length, map, IfOk, OnOk};
 ghost use Rattle.param_space.specs.Space.{Belongs};
-ghost use Rattle.param_space.specs.Settings.{name_and_value, named_values, at_places, with_setting, settings_text};
+ghost use Rattle.param_space.specs.Settings;
+ghost use Rattle.param_space.specs.Settings.{name_and_value, with_setting, settings_text};
 
 use crate::lists::Param;
 use crate::marks::Marks;
@@ -40,7 +41,7 @@ pub fn marked_values<'a>(
 ) -> Result<Vec<NamedValue<'a>>, Memory>
     requires belongs { Belongs params.now values.now }
     requires sizes { length params.now ≤ length active.now }
-    ensures { IfOk result (λ v. map name_and_value v.items ≡ at_places (λ i. slice_index_or active.now i false) 0 (named_values params.now values.now)) }
+    ensures { IfOk result (λ v. map name_and_value v.items ≡ Settings.marked_values params.now values.now active.now) }
 {
     let mut found = Vec::new(alloc);
     for (i, param) in params.iter().enumerate() {

@@ -1,8 +1,9 @@
 //! Spaces.
-ghost use Rattle.std.specs.Prelude.{ℕ, ◌≡◌, ◌<◌, ◌≤◌, ◌++◌, true, false, slice_index_or, OnOk, OnErr, IfOk, IfErr, IfSome, Some, None, length, map};
+ghost use Rattle.std.specs.Prelude.{ℕ, ◌≡◌, ◌<◌, ◌≤◌, ◌++◌, true, false, OnOk, OnErr, IfOk, IfErr, None, length, map};
 ghost use Rattle.param_space.specs.Limits;
 ghost use Rattle.param_space.specs.Space.{space_lists, defaults, Belongs};
-ghost use Rattle.param_space.specs.Faults.{space_fault, breach_of, IsSpace};
+ghost use Rattle.param_space.specs.Faults.{space_fault, IsBreach, IsSpace};
+ghost use Rattle.param_space.specs.Marks.{AreMarksOf};
 ghost use Rattle.param_space.specs.Configurations;
 ghost use Rattle.param_space.specs.Configurations.{settled_config, IsConfig};
 ghost use Rattle.param_space.specs.Settings;
@@ -51,9 +52,17 @@ impl PartialEq for Space {
     ghost use Rattle.param_space.specs.contracts.lists.ConditionEq.TheImpl.Laws as condition;
     ghost use Rattle.param_space.specs.contracts.lists.ForbiddenEq.TheImpl.Laws as forbidden;
 
-    ghost eq = { eq_of_both (on (λ s. s.params) (pointwise ⟦<Param as PartialEq>⟧.eq)) (eq_of_both (on (λ s. s.conditions) (pointwise ⟦<Condition as PartialEq>⟧.eq)) (on (λ s. s.forbidden) (pointwise ⟦<Forbidden as PartialEq>⟧.eq))) };
+    ghost eq = { eq_of_both
+        (on (λ s. s.params) (pointwise ⟦<Param as PartialEq>⟧.eq))
+        (eq_of_both
+        (on (λ s. s.conditions) (pointwise ⟦<Condition as PartialEq>⟧.eq))
+        (on (λ s. s.forbidden) (pointwise ⟦<Forbidden as PartialEq>⟧.eq))) };
 
-    ghost laws = { partial_equiv_from_equiv (and_equiv (on_equiv (λ s. s.params) (lists_equiv param.laws-law)) (and_equiv (on_equiv (λ s. s.conditions) (lists_equiv condition.laws-law)) (on_equiv (λ s. s.forbidden) (lists_equiv forbidden.laws-law)))) };
+    ghost laws = { partial_equiv_from_equiv (and_equiv
+        (on_equiv (λ s. s.params) (lists_equiv param.laws-law))
+        (and_equiv
+        (on_equiv (λ s. s.conditions) (lists_equiv condition.laws-law))
+        (on_equiv (λ s. s.forbidden) (lists_equiv forbidden.laws-law)))) };
 
     fn eq(&self, other: &Space) -> bool {
         self.params == other.params
@@ -68,7 +77,11 @@ impl Eq for Space {
     ghost use Rattle.param_space.specs.contracts.lists.ConditionEq.TheImpl.Laws as condition;
     ghost use Rattle.param_space.specs.contracts.lists.ForbiddenEq.TheImpl.Laws as forbidden;
 
-    ghost laws = { and_equiv (on_equiv (λ s. s.params) (lists_equiv param.laws-law)) (and_equiv (on_equiv (λ s. s.conditions) (lists_equiv condition.laws-law)) (on_equiv (λ s. s.forbidden) (lists_equiv forbidden.laws-law))) };
+    ghost laws = { and_equiv
+        (on_equiv (λ s. s.params) (lists_equiv param.laws-law))
+        (and_equiv
+        (on_equiv (λ s. s.conditions) (lists_equiv condition.laws-law))
+        (on_equiv (λ s. s.forbidden) (lists_equiv forbidden.laws-law))) };
 }
 
 impl Space {
@@ -84,7 +97,7 @@ impl Space {
         ensures ok { IfOk result (λ s. s ≡ space_lists params.items conditions.items forbidden.items) }
         ensures sound { OnOk result (space_fault (space_lists params.items conditions.items forbidden.items) ≡ None) }
         ensures fault { let found = space_fault (space_lists params.items conditions.items forbidden.items) in
-            IfErr result (λ e. IfSome (breach_of e) (λ b. found ≡ Some b)) }
+            IfErr result (λ e. IsBreach e found) }
     {
         let order = checked_order(
             alloc,
@@ -128,7 +141,7 @@ impl Space {
     fn marks(&self, config: &Config) -> Marks
         requires { Belongs self.now.params config.now }
         ensures size { length result ≡ Limits.max_params }
-        ensures value { (p : ℕ) → p < Limits.max_params → slice_index_or result p false ≡ Configurations.is_active self.now config.now p }
+        ensures value { AreMarksOf (Configurations.is_active self.now config.now) result }
         ensures space { IsSpace self.now }
         ensures long { length config.now ≡ length self.now.params }
         ensures few { length self.now.params ≤ Limits.max_params }
@@ -226,7 +239,8 @@ impl Space {
     /// there is no memory left, nothing is appended.
     pub fn push_settings(&self, config: &Config, out: &mut Vec<u8>) -> Result<(), Memory>
         requires { Belongs self.now.params config.now }
-        ensures ok { OnOk result (out.new.items ≡ out.old.items ++ settings_text (Settings.active_values self.now config.now)) }
+        ensures ok { let settings = Settings.active_values self.now config.now in
+            OnOk result (out.new.items ≡ out.old.items ++ settings_text settings) }
         ensures err { OnErr result (out.new.items ≡ out.old.items) }
     {
         let alloc = *self.params.allocator();
