@@ -42,9 +42,16 @@ impl Model for Pairs {
 
     ghost Value = { Plan };
 
-    ghost view = { λ p. record { instances = p.instances; seed = p.seed; deterministic = p.deterministic; order = p.order; max_runs = p.max_runs } };
+    ghost view = { λ p. record {
+      instances = p.instances;
+      seed = p.seed;
+      deterministic = p.deterministic;
+      order = p.order;
+      max_runs = p.max_runs;
+    } };
 
-    ghost invariant = { λ p. ArePairsInRange (length p.instances) p.max_runs × AreSpots p.order p.seed (length p.instances) p.max_runs p.spots };
+    ghost invariant = { λ p. ArePairsInRange (length p.instances) p.max_runs
+        × AreSpots p.order p.seed (length p.instances) p.max_runs p.spots };
 }
 
 impl PartialEq for Pairs {
@@ -57,9 +64,17 @@ impl PartialEq for Pairs {
     ghost use Rattle.std.proofs.lemmas.Cmp.{and_equiv, on_equiv, lists_equiv};
     ghost use Rattle.instance_pairs.specs.contracts.instances.InstanceEq.TheImpl.Laws as instance;
 
-    ghost eq = { eq_of_both (on (λ p. p.instances) (pointwise ⟦<Instance as PartialEq>⟧.eq)) (eq_of_both (on (λ p. p.seed) nat_eq) (eq_of_both (on (λ p. p.deterministic) ⟦<bool as PartialEq>⟧.eq) (eq_of_both (on (λ p. p.order) ⟦<PairOrder as PartialEq>⟧.eq) (on (λ p. p.max_runs) nat_eq)))) };
+    ghost eq = { eq_of_both
+        (on (λ p. p.instances) (pointwise ⟦<Instance as PartialEq>⟧.eq))
+        (eq_of_both
+        (on (λ p. p.seed) nat_eq)
+        (eq_of_both
+        (on (λ p. p.deterministic) ⟦<bool as PartialEq>⟧.eq)
+        (eq_of_both (on (λ p. p.order) ⟦<PairOrder as PartialEq>⟧.eq) (on (λ p. p.max_runs) nat_eq)))) };
 
-    ghost laws = { partial_equiv_from_equiv (and_equiv (on_equiv (λ p. p.instances) (lists_equiv instance.laws-law)) (Prim.search (comparing, rules))) };
+    ghost laws = { partial_equiv_from_equiv (and_equiv
+        (on_equiv (λ p. p.instances) (lists_equiv instance.laws-law))
+        (Prim.search (comparing, rules))) };
 
     fn eq(&self, other: &Pairs) -> bool {
         self.instances == other.instances
@@ -76,7 +91,9 @@ impl Eq for Pairs {
     ghost use Rattle.std.proofs.lemmas.Cmp.{and_equiv, on_equiv, lists_equiv};
     ghost use Rattle.instance_pairs.specs.contracts.instances.InstanceEq.TheImpl.Laws as instance;
 
-    ghost laws = { and_equiv (on_equiv (λ p. p.instances) (lists_equiv instance.laws-law)) (Prim.search (comparing, rules)) };
+    ghost laws = { and_equiv
+        (on_equiv (λ p. p.instances) (lists_equiv instance.laws-law))
+        (Prim.search (comparing, rules)) };
 }
 
 /// How many runs a configuration may have at most.
@@ -105,7 +122,13 @@ impl Pairs {
         requires few { length instances.items ≤ max_instances }
         requires one { 1 ≤ wanted }
         requires most { wanted ≤ Limits.max_runs }
-        ensures { IfOk result (λ p. p ≡ record { instances = instances.items; seed = seed; deterministic = deterministic; order = order; max_runs = max_runs_of deterministic (length instances.items) wanted }) }
+        ensures { IfOk result (λ p. p ≡ record {
+          instances = instances.items;
+          seed = seed;
+          deterministic = deterministic;
+          order = order;
+          max_runs = max_runs_of deterministic (length instances.items) wanted;
+        }) }
     {
         let count = instances.len() as u32;
         let max_runs = max_runs_for(deterministic, count, wanted);

@@ -1,6 +1,6 @@
 //! The instances of an instance file.
-ghost use Rattle.std.specs.Prelude.{◌≡◌, ◌≤◌, ◌^◌, ◌<◌, [], Ok, OnOk, IfOk, IfErr, length};
-ghost use Rattle.plain_text.specs.Faults.{in_line, IsFound};
+ghost use Rattle.std.specs.Prelude.{◌≡◌, ◌≤◌, ◌^◌, ◌<◌, [], Ok, OnOk, IfOk, length};
+ghost use Rattle.plain_text.specs.Faults.{in_line, FailsAs};
 ghost use Rattle.plain_text.specs.LineFolds.{fold_lines};
 ghost use Rattle.plain_text.specs.Lines;
 ghost use Rattle.instance_pairs.specs.Faults.{fault_of};
@@ -21,7 +21,7 @@ fn add(
     stated: Option<Instance>,
 ) -> Result<(), InstanceFault>
     ensures value { OnOk result (with_instance instances.old.items stated ≡ Ok instances.new.items) }
-    ensures fault { IfErr result (λ e. IsFound (fault_of e) (in_line line (with_instance instances.old.items stated))) }
+    ensures fault { FailsAs fault_of result (in_line line (with_instance instances.old.items stated)) }
 {
     match stated {
         None => Ok(()),
@@ -47,7 +47,8 @@ fn add_line(
     bytes: &[u8],
 ) -> Result<(), InstanceFault>
     ensures value { OnOk result (with_line instances.old.items line bytes.now ≡ Ok instances.new.items) }
-    ensures fault { IfErr result (λ e. IsFound (fault_of e) (in_line line (with_line instances.old.items line bytes.now))) }
+    ensures fault { let read = with_line instances.old.items line bytes.now in
+        FailsAs fault_of result (in_line line read) }
 {
     match str::from_utf8(bytes) {
         Ok(text) => {
@@ -65,7 +66,7 @@ fn add_line(
 fn read_lines(alloc: Global, text: &[u8]) -> Result<Vec<Instance>, InstanceFault>
     requires { length text.now < 2 ^ 32 }
     ensures value { IfOk result (λ v. fold_lines with_line [] (Lines.numbered_lines text.now) ≡ Ok v.items) }
-    ensures fault { IfErr result (λ e. IsFound (fault_of e) (fold_lines with_line [] (Lines.numbered_lines text.now))) }
+    ensures fault { FailsAs fault_of result (fold_lines with_line [] (Lines.numbered_lines text.now)) }
 {
     let mut instances = Vec::new(alloc);
     for line in numbered_lines(text) {
@@ -84,7 +85,7 @@ fn read_lines(alloc: Global, text: &[u8]) -> Result<Vec<Instance>, InstanceFault
 pub fn read_instances(alloc: Global, text: &[u8]) -> Result<Vec<Instance>, InstanceFault>
     ensures value { IfOk result (λ v. instances_read text.now ≡ Ok v.items) }
     ensures count { IfOk result (λ v. (1 ≤ length v.items) × (length v.items ≤ max_instances)) }
-    ensures fault { IfErr result (λ e. IsFound (fault_of e) (instances_read text.now)) }
+    ensures fault { FailsAs fault_of result (instances_read text.now) }
 {
     if text.len() > MAX_BYTES {
         return Err(InstanceFault::At {
