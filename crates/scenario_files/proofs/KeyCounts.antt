@@ -88,10 +88,10 @@ unfoldable pub pairs : Given → ℕ
 pairs g = bit (is_some g.file) + count g.draft
 
 -- twice as many words, which are few
-abbrev pub IsPlace : ℕ → Given → Type 0
-IsPlace place g = place ≡ 2 * pairs g
+abbrev pub IsPosition : ℕ → Given → Type 0
+IsPosition position g = position ≡ 2 * pairs g
 
-pub none_taken : (g : Given) → g ≡ no_words → IsPlace 0 g
+pub none_taken : (g : Given) → g ≡ no_words → IsPosition 0 g
 unfolding pairs count
 none_taken g e = rw e refl
 
@@ -139,9 +139,9 @@ pair_more g h word value e = by (bytes_eq word (codes "-scenariofile")) e
     by false e = key_word_more g h word value e
 
 -- two more words
-pub two_taken : (place : ℕ) (g h : Given) (word value : List ℕ) → IsPlace place g → with_pair g word value ≡ Ok h → IsPlace (place + 2) h
-two_taken place g h word value is e = let more = pair_more g h word value e in omega (arith, is, more)
+pub two_taken : (position : ℕ) (g h : Given) (word value : List ℕ) → IsPosition position g → with_pair g word value ≡ Ok h → IsPosition (position + 2) h
+two_taken position g h word value is e = let more = pair_more g h word value e in omega (arith, is, more)
 
--- the places of key words are few
-pub place_few : (place : ℕ) (g : Given) → IsPlace place g → place < 2 ^ 32
-place_few place g is = omega (arith, is, pairs_few g)
+-- the positions of key words are few
+pub position_few : (position : ℕ) (g : Given) → IsPosition position g → position < 2 ^ 32
+position_few position g is = omega (arith, is, pairs_few g)

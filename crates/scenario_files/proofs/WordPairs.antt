@@ -5,13 +5,13 @@ use Rattle.plain_text.specs.Faults.{IsFound}
 use Rattle.plain_text.specs.Results.{◌>>=◌}
 use Rattle.plain_text.proofs.LineFoldLemmas.{fault_moves}
 use Rattle.scenario_files.specs.declared.call.Given.{Given}
-use Rattle.scenario_files.specs.Words.{with_pair, at_place, words_before, with_words}
+use Rattle.scenario_files.specs.Words.{with_pair, at_position, words_before, with_words}
 
--- what is left from a place on
+-- what is left from a position on
 abbrev pub left : List (List ℕ) → ℕ → List (List ℕ)
 left ws n = take (length ws - n) (drop n ws)
 
--- the word at a place of what is left
+-- the word at a position of what is left
 word_at : (ws : List (List ℕ)) (n i : ℕ) (w : List ℕ) → w ≡ get_or (left ws n) i w → w ≡ get_or ws (n + i) w
 word_at ws n i w is = is ∙ ap (λ xs. get_or xs i w) (take_rest ws n) ∙ get_or-drop n ws i w
 
@@ -32,12 +32,12 @@ pair_within ws n within some = omega (arith, some, within, ap length (take_rest 
 -- a pair that is taken
 pub pair_taken : (n : ℕ) (g h : Given) (w v : List ℕ) (later : List (List ℕ)) → with_pair g w v ≡ Ok h → with_words n g (w ∷ v ∷ later) ≡ with_words (n + 2) h later
 unfolding with_words
-pair_taken n g h w v later is = ap (λ r. at_place n r >>= λ x. with_words (n + 2) x later) is
+pair_taken n g h w v later is = ap (λ r. at_position n r >>= λ x. with_words (n + 2) x later) is
 
 -- a pair that is wrong
-pub pair_stops : (o : Option ℕ) (n : ℕ) (g : Given) (w v : List ℕ) (later : List (List ℕ)) → IsFound o (at_place n (with_pair g w v)) → IsFound o (with_words n g (w ∷ v ∷ later))
+pub pair_stops : (o : Option ℕ) (n : ℕ) (g : Given) (w v : List ℕ) (later : List (List ℕ)) → IsFound o (at_position n (with_pair g w v)) → IsFound o (with_words n g (w ∷ v ∷ later))
 unfolding with_words
-pair_stops o n g w v later h = fault_moves o (at_place n (with_pair g w v)) (with_words n g (w ∷ v ∷ later)) (λ f is. ap (λ r. r >>= λ x. with_words (n + 2) x later) is) h
+pair_stops o n g w v later h = fault_moves o (at_position n (with_pair g w v)) (with_words n g (w ∷ v ∷ later)) (λ f is. ap (λ r. r >>= λ x. with_words (n + 2) x later) is) h
 
 -- a word without a value
 pub one_left : (ws : List (List ℕ)) (n : ℕ) (g : Given) → length (left ws n) < 2 → n < length ws → with_words n g (drop n ws) ≡ Err n

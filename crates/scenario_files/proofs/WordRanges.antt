@@ -12,7 +12,7 @@ use Rattle.scenario_files.specs.declared.faults.ScenarioWhat.TheVariants.{Unknow
 use Rattle.scenario_files.specs.Drafts.{with_name}
 use Rattle.scenario_files.specs.Ranges.{IsFilled, AreWithin, AreWordsWithin}
 use Rattle.scenario_files.specs.Values.{text_of}
-use Rattle.scenario_files.specs.Words.{no_words, with_file, with_key_word, with_pair, at_place, words_before, with_words, words_read}
+use Rattle.scenario_files.specs.Words.{no_words, with_file, with_key_word, with_pair, at_position, words_before, with_words, words_read}
 use Rattle.scenario_files.proofs.ValueRanges.{same_ok, text_within, name_within, no_keys_within}
 
 -- the file's name isn't blank, and the keys so far lie within their limits
@@ -50,17 +50,17 @@ pair_within g h word value w e = by (bytes_eq word (codes "-scenariofile")) e
     by true e = file_within g h value w e
     by false e = key_word_within g h word value w e
 
-before_within : (place : ℕ) (d : Draft) (file : Option (List ℕ)) (x : Words) → IfSome file IsFilled → AreWithin d → words_before place (record { file = file; draft = d }) ≡ Ok x → AreWordsWithin x
-before_within place d None x f w h = absurd (cc)
-before_within place d (Some name) x f w h = subst AreWordsWithin (same_ok (record { scenario_file = name; draft = d }) x h) (record { scenario_file = f; draft = w })
+before_within : (position : ℕ) (d : Draft) (file : Option (List ℕ)) (x : Words) → IfSome file IsFilled → AreWithin d → words_before position (record { file = file; draft = d }) ≡ Ok x → AreWordsWithin x
+before_within position d None x f w h = absurd (cc)
+before_within position d (Some name) x f w h = subst AreWordsWithin (same_ok (record { scenario_file = name; draft = d }) x h) (record { scenario_file = f; draft = w })
 
-all_within : (place : ℕ) (g : Given) (words : List (List ℕ)) (x : Words) → IsGivenWithin g → with_words place g words ≡ Ok x → AreWordsWithin x
+all_within : (position : ℕ) (g : Given) (words : List (List ℕ)) (x : Words) → IsGivenWithin g → with_words position g words ≡ Ok x → AreWordsWithin x
 unfolding with_words
-all_within place g [] x w h = before_within place g.draft g.file x w.file w.draft h
-all_within place g (word ∷ []) x w h = absurd (cc)
-all_within place g (word ∷ value ∷ later) x w h = by (with_pair g word value) refl h (λ n v. all_within (place + 2) n later x v)
+all_within position g [] x w h = before_within position g.draft g.file x w.file w.draft h
+all_within position g (word ∷ []) x w h = absurd (cc)
+all_within position g (word ∷ value ∷ later) x w h = by (with_pair g word value) refl h (λ n v. all_within (position + 2) n later x v)
   where
-    by : (r : Result Given ScenarioWhat) → with_pair g word value ≡ r → (at_place place r >>= λ n. with_words (place + 2) n later) ≡ Ok x → ((n : Given) → IsGivenWithin n → with_words (place + 2) n later ≡ Ok x → AreWordsWithin x) → AreWordsWithin x
+    by : (r : Result Given ScenarioWhat) → with_pair g word value ≡ r → (at_position position r >>= λ n. with_words (position + 2) n later) ≡ Ok x → ((n : Given) → IsGivenWithin n → with_words (position + 2) n later ≡ Ok x → AreWordsWithin x) → AreWordsWithin x
     by (Err what) is h rest = absurd (cc)
     by (Ok n) is h rest = rest n (pair_within g n word value w is) h
 

@@ -1,4 +1,4 @@
--- The rules and places that faults name. None stands for want of memory, which no text gives.
+-- The rules and positions that faults name. None stands for want of memory, which no text gives.
 use Rattle.std.specs.Prelude.{ℕ, Option, Some, None}
 use Rattle.plain_text.specs.Faults.{LineFault}
 use Rattle.scenario_files.specs.declared.faults.Refused.{Refused}
@@ -14,10 +14,10 @@ abbrev pub fault_of : ScenarioFault → Option (LineFault ScenarioWhat)
 fault_of (scenario.At line what) = Some (record { line = line; what = what })
 fault_of scenario.Memory = None
 
--- the place of the key word that is wrong
-abbrev pub place_of : WordFault → Option ℕ
-place_of (word.At place) = Some place
-place_of word.Memory = None
+-- the position of the key word that is wrong
+abbrev pub position_of : WordFault → Option ℕ
+position_of (word.At position) = Some position
+position_of word.Memory = None
 
 -- the rule that a value breaks
 abbrev pub rule_of : Refused → Option ScenarioWhat

@@ -1,4 +1,4 @@
--- What the words of a call give, or the place of the first key word that is wrong.
+-- What the words of a call give, or the position of the first key word that is wrong.
 use Rattle.std.specs.Prelude.{ℕ, ◌+◌, List, [], ◌∷◌, Some, None, Result, Ok, Err, ok_or, bytes_eq, codes, if◌then◌else◌}
 use Rattle.std.specs.Option.{is_some}
 use Rattle.plain_text.specs.Parts.{after_prefix}
@@ -29,21 +29,21 @@ with_key_word g word value = do
 unfoldable pub with_pair : Given → List ℕ → List ℕ → Result Given ScenarioWhat
 with_pair g word value = if bytes_eq word (codes "-scenariofile") then with_file g value else with_key_word g word value
 
--- a reading of the pair at this place: its fault is the place
-abbrev pub at_place : {A : Type 0} → ℕ → Result A ScenarioWhat → Result A ℕ
-at_place place (Ok x) = Ok x
-at_place place (Err what) = Err place
+-- a reading of the pair at this position: its fault is the position
+abbrev pub at_position : {A : Type 0} → ℕ → Result A ScenarioWhat → Result A ℕ
+at_position position (Ok x) = Ok x
+at_position position (Err what) = Err position
 
--- all that was given before a place, where the file's name came
+-- all that was given before a position, where the file's name came
 abbrev pub words_before : ℕ → Given → Result Words ℕ
-words_before place g = ok_or g.file place >>= λ name. Ok (record { scenario_file = name; draft = g.draft })
+words_before position g = ok_or g.file position >>= λ name. Ok (record { scenario_file = name; draft = g.draft })
 
--- what is given with the words from a place on
+-- what is given with the words from a position on
 unfoldable pub with_words : ℕ → Given → List (List ℕ) → Result Words ℕ
-with_words place g [] = words_before place g
-with_words place g (word ∷ []) = Err place
-with_words place g (word ∷ value ∷ later) = at_place place (with_pair g word value) >>= λ h. with_words (place + 2) h later
+with_words position g [] = words_before position g
+with_words position g (word ∷ []) = Err position
+with_words position g (word ∷ value ∷ later) = at_position position (with_pair g word value) >>= λ h. with_words (position + 2) h later
 
--- what words give, or the place of their first fault
+-- what words give, or the position of their first fault
 abbrev pub words_read : List (List ℕ) → Result Words ℕ
 words_read words = with_words 0 no_words words

@@ -58,7 +58,7 @@ pub enum WordFault {
     /// The first key word that is wrong, or that `-scenariofile` never comes.
     #[error("word {place}")]
     At {
-        /// The place of the key word, from 0; the number of words where none is wrong.
+        /// The position of the key word, from 0; the number of words where none is wrong.
         place: u32,
     },
     /// There is no memory left.

@@ -1,7 +1,7 @@
 //! A scenario with its defaults filled in.
-ghost use Rattle.std.specs.Prelude.{◌≡◌, Ok, IfOk, IfErr, codes};
+ghost use Rattle.std.specs.Prelude.{◌≡◌, Ok, IfOk, codes};
 ghost use Rattle.std.specs.Option.{unwrap_or};
-ghost use Rattle.plain_text.specs.Faults.{IsFound};
+ghost use Rattle.plain_text.specs.Faults.{FailsAs};
 ghost use Rattle.scenario_files.specs.Faults.{fault_of, rule_of};
 ghost use Rattle.scenario_files.specs.Ranges.{AreWithin, IsScenarioWithin};
 ghost use Rattle.scenario_files.specs.Scenarios;
@@ -115,7 +115,7 @@ fn folder(alloc: Global, given: Option<Text>) -> Result<Text, Memory>
 #[tactic(auto, unfolding(crate::specs::Scenarios::scenario_of))]
 fn scenario_of(alloc: Global, draft: Draft) -> Result<Scenario, Refused>
     ensures value { IfOk result (λ s. Scenarios.scenario_of draft ≡ Ok s) }
-    ensures fault { IfErr result (λ e. IsFound (rule_of e) (Scenarios.scenario_of draft)) }
+    ensures fault { FailsAs rule_of result (Scenarios.scenario_of draft) }
 {
     let given = essentials_of(
         draft.algo,
@@ -159,7 +159,7 @@ fn scenario_of(alloc: Global, draft: Draft) -> Result<Scenario, Refused>
 /// [`ScenarioFault::Memory`].
 pub fn fill(alloc: Global, file: Draft, words: Draft) -> Result<Scenario, ScenarioFault>
     ensures value { IfOk result (λ s. Scenarios.filled_scenario file words ≡ Ok s) }
-    ensures fault { IfErr result (λ e. IsFound (fault_of e) (Scenarios.filled_scenario file words)) }
+    ensures fault { FailsAs fault_of result (Scenarios.filled_scenario file words) }
     ensures limits { AreWithin file → AreWithin words → IfOk result IsScenarioWithin }
 {
     match scenario_of(alloc, draft_or(words, file)) {

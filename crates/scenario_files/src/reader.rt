@@ -1,6 +1,6 @@
 //! The keys that a scenario file gives.
-ghost use Rattle.std.specs.Prelude.{◌≡◌, ◌^◌, ◌<◌, Ok, OnOk, IfOk, IfErr, length};
-ghost use Rattle.plain_text.specs.Faults.{in_line, IsFound};
+ghost use Rattle.std.specs.Prelude.{◌≡◌, ◌^◌, ◌<◌, Ok, OnOk, IfOk, length};
+ghost use Rattle.plain_text.specs.Faults.{in_line, FailsAs};
 ghost use Rattle.plain_text.specs.Lines;
 ghost use Rattle.scenario_files.specs.Faults.{fault_of, rule_of};
 ghost use Rattle.scenario_files.specs.Files.{with_statement, with_line, lines_read, scenario_read};
@@ -17,7 +17,7 @@ impl Draft {
     /// Takes what a line without a comment states.
     fn add_statement(&mut self, alloc: Global, text: &str) -> Result<(), Refused>
         ensures value { OnOk result (with_statement self.old text.now ≡ Ok self.new) }
-        ensures fault { IfErr result (λ e. IsFound (rule_of e) (with_statement self.old text.now)) }
+        ensures fault { FailsAs rule_of result (with_statement self.old text.now) }
     {
         if is_empty(text) {
             return Ok(());
@@ -32,7 +32,7 @@ impl Draft {
     #[tactic(auto, unfolding(crate::specs::Files::with_line))]
     fn add_line(&mut self, alloc: Global, line: &[u8]) -> Result<(), Refused>
         ensures value { OnOk result (with_line self.old line.now ≡ Ok self.new) }
-        ensures fault { IfErr result (λ e. IsFound (rule_of e) (with_line self.old line.now)) }
+        ensures fault { FailsAs rule_of result (with_line self.old line.now) }
     {
         match str::from_utf8(line) {
             Ok(text) => self.add_statement(alloc, uncommented(text)),
@@ -43,7 +43,7 @@ impl Draft {
     /// Takes what the line with this number states.
     fn add_numbered(&mut self, alloc: Global, number: u32, line: &[u8]) -> Result<(), ScenarioFault>
         ensures value { OnOk result (with_line self.old line.now ≡ Ok self.new) }
-        ensures fault { IfErr result (λ e. IsFound (fault_of e) (in_line number (with_line self.old line.now))) }
+        ensures fault { FailsAs fault_of result (in_line number (with_line self.old line.now)) }
     {
         match self.add_line(alloc, line) {
             Ok(()) => Ok(()),
@@ -56,7 +56,7 @@ impl Draft {
 fn read_lines(alloc: Global, text: &[u8]) -> Result<Draft, ScenarioFault>
     requires { length text.now < 2 ^ 32 }
     ensures value { IfOk result (λ d. lines_read (Lines.numbered_lines text.now) ≡ Ok d) }
-    ensures fault { IfErr result (λ e. IsFound (fault_of e) (lines_read (Lines.numbered_lines text.now))) }
+    ensures fault { FailsAs fault_of result (lines_read (Lines.numbered_lines text.now)) }
 {
     let mut draft = Draft::no_keys();
     for line in numbered_lines(text) {
@@ -74,7 +74,7 @@ fn read_lines(alloc: Global, text: &[u8]) -> Result<Draft, ScenarioFault>
 #[tactic(auto, unfolding(crate::specs::Files::scenario_read))]
 pub fn read_scenario(alloc: Global, text: &[u8]) -> Result<Draft, ScenarioFault>
     ensures value { IfOk result (λ d. scenario_read text.now ≡ Ok d) }
-    ensures fault { IfErr result (λ e. IsFound (fault_of e) (scenario_read text.now)) }
+    ensures fault { FailsAs fault_of result (scenario_read text.now) }
     ensures limits { IfOk result AreWithin }
 {
     if text.len() > MAX_BYTES {

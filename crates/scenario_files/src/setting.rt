@@ -1,6 +1,6 @@
 //! A draft takes a key.
-ghost use Rattle.std.specs.Prelude.{◌≡◌, Ok, IfErr, OnOk, IfOk};
-ghost use Rattle.plain_text.specs.Faults.{IsFound};
+ghost use Rattle.std.specs.Prelude.{◌≡◌, Ok, OnOk, IfOk};
+ghost use Rattle.plain_text.specs.Faults.{FailsAs};
 ghost use Rattle.scenario_files.specs.Drafts.{has_key, with_value, with_key, with_name};
 ghost use Rattle.scenario_files.specs.Faults.{rule_of};
 ghost use Rattle.scenario_files.specs.Values;
@@ -19,7 +19,7 @@ use std::alloc::Global;
 /// A text that isn't of blanks alone.
 pub(crate) fn text_of(alloc: Global, text: &str) -> Result<Text, Refused>
     ensures value { IfOk result (λ t. Values.text_of text.now ≡ Ok t) }
-    ensures fault { IfErr result (λ e. IsFound (rule_of e) (Values.text_of text.now)) }
+    ensures fault { FailsAs rule_of result (Values.text_of text.now) }
 {
     if is_empty(text) {
         return Err(Refused::Value(ScenarioWhat::BadValue));
@@ -63,7 +63,7 @@ impl Draft {
     #[tactic(auto, unfolding(crate::specs::Drafts::with_value))]
     fn set_value(&mut self, alloc: Global, key: Key, text: &str) -> Result<(), Refused>
         ensures value { OnOk result (with_value self.old key text.now ≡ Ok self.new) }
-        ensures fault { IfErr result (λ e. IsFound (rule_of e) (with_value self.old key text.now)) }
+        ensures fault { FailsAs rule_of result (with_value self.old key text.now) }
     {
         match key {
             Key::Algo => self.algo = Some(text_of(alloc, text)?),
@@ -101,7 +101,7 @@ impl Draft {
     /// wrong with the value; then nothing is known of the draft.
     pub(crate) fn set(&mut self, alloc: Global, key: Key, text: &str) -> Result<(), Refused>
         ensures value { OnOk result (with_key self.old key text.now ≡ Ok self.new) }
-        ensures fault { IfErr result (λ e. IsFound (rule_of e) (with_key self.old key text.now)) }
+        ensures fault { FailsAs rule_of result (with_key self.old key text.now) }
     {
         if self.has(key) {
             return Err(Refused::Value(ScenarioWhat::Twice));
@@ -118,7 +118,7 @@ impl Draft {
         value: &str,
     ) -> Result<(), Refused>
         ensures value { OnOk result (with_name self.old name.now value.now ≡ Ok self.new) }
-        ensures fault { IfErr result (λ e. IsFound (rule_of e) (with_name self.old name.now value.now)) }
+        ensures fault { FailsAs rule_of result (with_name self.old name.now value.now) }
     {
         match key_of(name) {
             Some(key) => self.set(alloc, key, value),

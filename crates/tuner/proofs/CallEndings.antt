@@ -5,7 +5,7 @@ use Rattle.objective.specs.declared.Outcome.{Outcome}
 use Rattle.wrapper_lines.specs.declared.runs.Key.{Key}
 use Rattle.outside.specs.ToldStates.{SinkTold}
 use Rattle.plain_text.specs.Faults.{IsFound}
-use Rattle.scenario_files.specs.Faults.{place_of}
+use Rattle.scenario_files.specs.Faults.{position_of}
 use Rattle.scenario_files.specs.Words.{words_read}
 use Rattle.scenario_files.specs.declared.call.Words.{Words}
 use Rattle.scenario_files.specs.declared.faults.WordFault.{WordFault}
@@ -41,7 +41,7 @@ stated_by call given task e h = record {
 }
 
 -- words that are no call
-pub ending_misused : (call : Call) (out out' : SinkTold) (result : Status) (e : WordFault) → IsFound (place_of e) (words_read call.words)
+pub ending_misused : (call : Call) (out out' : SinkTold) (result : Status) (e : WordFault) → IsFound (position_of e) (words_read call.words)
     → ReportsMisuse e out out' result → Conducted call out out' result
 ending_misused call out out' result (word_fault.At place) cause said = reported call out out' result (status.Usage place) _ cause tt refl said
 ending_misused call out out' result word_fault.Memory cause said = without_memory call out out' result said

@@ -2,22 +2,22 @@ use Rattle.std.proofs.Common.{◌≡◌, ◌+◌, ◌∷◌, Ok, drop, ap, sym, 
 use Rattle.std.proofs.lemmas.Result.{err_from_is_err_and}
 use Rattle.plain_text.proofs.LineFoldLemmas.{fault-same}
 use Rattle.scenario_files.specs.Words.{with_pair, with_words, words_read}
-use Rattle.scenario_files.proofs.KeyCounts.{none_taken, two_taken, place_few}
+use Rattle.scenario_files.proofs.KeyCounts.{none_taken, two_taken, position_few}
 use Rattle.scenario_files.proofs.WordPairs.{pair_left, pair_within, pair_taken, pair_stops, one_left, none_left}
 use Rattle.scenario_files.proofs.call.Given.add_pairs.Goals as goal
 
 pub loop-taken-init : goal.loop-taken-init
 loop-taken-init c = record {
   within = omega arith;
-  place = none_taken c.args.self.now c.requires;
+  position = none_taken c.args.self.now c.requires;
   read = ap (λ g. with_words 0 g c.args.words.now) (sym c.requires);
 }
 
 pub overflow_cast-taken : goal.overflow_cast-taken
-overflow_cast-taken c = omega (arith, place_few c.loop-taken.taken c.loop-taken.self c.loop-taken.invariant.place)
+overflow_cast-taken c = omega (arith, position_few c.loop-taken.taken c.loop-taken.self c.loop-taken.invariant.position)
 
-pub overflow_cast-place : goal.overflow_cast-place
-overflow_cast-place c = omega (arith, place_few c.loop-taken.taken c.loop-taken.self c.loop-taken.invariant.place)
+pub overflow_cast-position : goal.overflow_cast-position
+overflow_cast-position c = omega (arith, position_few c.loop-taken.taken c.loop-taken.self c.loop-taken.invariant.position)
 
 pub returns-in_err-add_pair-clause-fault : goal.returns-in_err-add_pair-clause-fault
 returns-in_err-add_pair-clause-fault c =
@@ -44,7 +44,7 @@ loop-taken-preserved c =
     let is : with_pair g w v ≡ Ok h = rw (c.as_str.ensures, c.as_str-in-len2-up.ensures) at c.in_ok-add_pair.ensures.value in
     record {
       within = pair_within words taken c.loop-taken.invariant.within c.in-len2-up.len_at_least;
-      place = two_taken taken g h w v c.loop-taken.invariant.place is;
+      position = two_taken taken g h w v c.loop-taken.invariant.position is;
       read = c.loop-taken.invariant.read ∙ ap (with_words taken g) (pair_left words taken w v c.in-len2-up.len_at_least c.word-item.is c.value-item.is) ∙ pair_taken taken g h w v (drop (taken + 2) words) is;
     }
 
