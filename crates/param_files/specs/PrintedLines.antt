@@ -21,6 +21,10 @@ param_name params p = slice_index_or (map (λ q. q.name) params) p []
 abbrev pub value_of : List Param → ℕ → ℕ → List ℕ
 value_of params p v = slice_index_or (slice_index_or (map (λ q. q.values) params) p []) v []
 
+-- the values of a parameter with these numbers, parted by a comma and a space
+abbrev pub values_text : List Param → ℕ → List ℕ → List ℕ
+values_text params p values = with_commas (map (value_of params p) values)
+
 -- `name {v1, v2} [default]`
 unfoldable pub param_line : Param → List ℕ
 param_line p = p.name ++ (codes " {" ++ (with_commas p.values ++ (codes "} [" ++ (slice_index_or p.values p.default [] ++ codes "]"))))
@@ -29,15 +33,31 @@ param_line p = p.name ++ (codes " {" ++ (with_commas p.values ++ (codes "} [" ++
 unfoldable pub condition_line : List Param → Condition → List ℕ
 condition_line params c =
     param_name params c.child ++ (codes " | " ++ (param_name params c.parent ++ (codes " in {"
-    ++ (with_commas (map (value_of params c.parent) c.values) ++ codes "}"))))
+    ++ (values_text params c.parent c.values ++ codes "}"))))
 
 -- `name=value`
 abbrev pub pick_text : List Param → Pick → List ℕ
 pick_text params k = param_name params k.param ++ (codes "=" ++ value_of params k.param k.value)
 
+-- picks parted by a comma and a space
+abbrev pub picks_text : List Param → List Pick → List ℕ
+picks_text params picks = with_commas (map (pick_text params) picks)
+
 -- `{name=value, name=value}`
 unfoldable pub clause_line : List Param → Forbidden → List ℕ
-clause_line params f = codes "{" ++ (with_commas (map (pick_text params) f.picks) ++ codes "}")
+clause_line params f = codes "{" ++ (picks_text params f.picks ++ codes "}")
+
+-- the lines of parameters, each ended by a line feed
+abbrev pub params_text : List Param → List ℕ
+params_text params = flat_map (λ p. param_line p ++ codes "\n") params
+
+-- the lines of conditions, each ended by a line feed
+abbrev pub conditions_text : List Param → List Condition → List ℕ
+conditions_text params conditions = flat_map (λ c. condition_line params c ++ codes "\n") conditions
+
+-- the lines of clauses, each ended by a line feed
+abbrev pub clauses_text : List Param → List Forbidden → List ℕ
+clauses_text params clauses = flat_map (λ f. clause_line params f ++ codes "\n") clauses
 
 -- the lines of a space: its parameters, its conditions, its clauses
 abbrev pub space_lines : Lists → List (List ℕ)

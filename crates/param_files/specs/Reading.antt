@@ -19,7 +19,7 @@ use Rattle.param_space.specs.declared.lists.Part.TheVariants as part
 use Rattle.param_space.specs.declared.lists.SpaceWhat.{SpaceWhat}
 use Rattle.param_space.specs.declared.lists.SpaceWhat.TheVariants.{NoParameters, TooMany, DoubleName, DoubleValue, BadDefault, UnknownName, UnknownValue}
 use Rattle.param_space.specs.Space.{Lists, space_lists}
-use Rattle.param_space.specs.Faults.{first_broken, whole_fault}
+use Rattle.param_space.specs.Faults.{first_broken, whole_fault, space_fault}
 use Rattle.param_files.specs.declared.faults.ParamWhat.{ParamWhat}
 use Rattle.param_files.specs.declared.faults.ParamWhat.TheVariants.{NotText, Form, Space}
 use Rattle.param_files.specs.declared.statements.NamedPick.{NamedPick}
@@ -214,6 +214,11 @@ breach_fault numbered part place what = space_fault_in (list_line numbered.condi
 abbrev pub without_fault : {A : Type 0} → Option (LineFault ParamWhat) → A → Result A (LineFault ParamWhat)
 without_fault None x = Ok x
 without_fault (Some fault) x = Err fault
+
+-- the space of these lists, or the first rule that they break with its line
+abbrev pub space_made : List Param → NumberedRelations → Result Lists (LineFault ParamWhat)
+space_made params numbered =
+    without_fault (option_map (λ b. breach_fault numbered b.part b.place b.what) (space_fault (lists_of params numbered))) (lists_of params numbered)
 
 -- one or more parameters
 abbrev pub some_params : List Param → Result (List Param) (LineFault ParamWhat)

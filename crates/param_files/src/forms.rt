@@ -44,7 +44,8 @@ fn is_nothing(tokens: &[&str]) -> bool
 /// begin otherwise.
 fn value_list(alloc: Global, tokens: &[&str]) -> Result<Option<ValueList>, Memory>
     ensures within { IfOk result (λ r. IfSome r (λ l. l.taken ≤ length tokens.now)) }
-    ensures value { IfOk result (λ r. option_map (λ l. (l.values.items, drop l.taken (map (λ t. t.now) tokens.now))) r ≡ Grammar.value_list (map (λ t. t.now) tokens.now)) }
+    ensures value { let texts = map (λ t. t.now) tokens.now in
+        IfOk result (λ r. option_map (λ l. (l.values.items, drop l.taken texts)) r ≡ Grammar.value_list texts) }
 {
     let mut values = Vec::new(alloc);
     let mut taken = 0;
@@ -74,7 +75,8 @@ fn is_pick(name: &str, equals: &str, value: &str) -> bool
 /// begin otherwise.
 fn pick_list(alloc: Global, tokens: &[&str]) -> Result<Option<PickList>, Memory>
     ensures within { IfOk result (λ r. IfSome r (λ l. l.taken ≤ length tokens.now)) }
-    ensures value { IfOk result (λ r. option_map (λ l. (l.picks.items, drop l.taken (map (λ t. t.now) tokens.now))) r ≡ Grammar.pick_list (map (λ t. t.now) tokens.now)) }
+    ensures value { let texts = map (λ t. t.now) tokens.now in
+        IfOk result (λ r. option_map (λ l. (l.picks.items, drop l.taken texts)) r ≡ Grammar.pick_list texts) }
 {
     let mut picks = Vec::new(alloc);
     let mut taken = 0;

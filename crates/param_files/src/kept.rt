@@ -1,7 +1,7 @@
 //! What is kept of the lines of a parameter file.
-ghost use Rattle.std.specs.Prelude.{◌≡◌, [], Ok, IfErr, OnOk};
+ghost use Rattle.std.specs.Prelude.{◌≡◌, [], Ok, OnOk};
 ghost use Rattle.param_files.specs.declared.statements.Statement.TheVariants.{Parameter, Condition, Clause};
-ghost use Rattle.plain_text.specs.Faults.{in_line, IsFound};
+ghost use Rattle.plain_text.specs.Faults.{in_line, FailsAs};
 ghost use Rattle.param_files.specs.Faults.{fault_of};
 ghost use Rattle.param_files.specs.KeptStatements.{kept_of, kept_with};
 
@@ -27,7 +27,12 @@ impl Model for SpaceDraft {
 
     ghost Value = { KeptStatements.SpaceDraft };
 
-    ghost view = { λ k. record { params = k.params.items; relations = k.relations.items; conditions = k.conditions; clauses = k.clauses } };
+    ghost view = { λ k. record {
+        params = k.params.items;
+        relations = k.relations.items;
+        conditions = k.conditions;
+        clauses = k.clauses;
+    } };
 }
 
 impl SpaceDraft {
@@ -49,7 +54,7 @@ impl SpaceDraft {
     #[tactic(auto, unfolding(crate::specs::Reading::fault_after))]
     pub fn add(&mut self, alloc: Global, line: u32, statement: Statement) -> Result<(), ParamFault>
         ensures value { OnOk result (kept_with self.old line statement ≡ Ok self.new) }
-        ensures fault { IfErr result (λ e. IsFound (fault_of e) (in_line line (kept_with self.old line statement))) }
+        ensures fault { FailsAs fault_of result (in_line line (kept_with self.old line statement)) }
     {
         match statement {
             Statement::Nothing => Ok(()),
@@ -78,7 +83,8 @@ impl SpaceDraft {
         default: Text,
     ) -> Result<(), ParamFault>
         ensures value { OnOk result (kept_with self.old line (Parameter name values default) ≡ Ok self.new) }
-        ensures fault { IfErr result (λ e. IsFound (fault_of e) (in_line line (kept_with self.old line (Parameter name values default)))) }
+        ensures fault { let kept = kept_with self.old line (Parameter name values default) in
+            FailsAs fault_of result (in_line line kept) }
     {
         let (texts, text) = (values.as_slice(), default.as_str());
         if let Some(what) = param_fault(
@@ -110,7 +116,8 @@ impl SpaceDraft {
         values: Items<Text>,
     ) -> Result<(), ParamFault>
         ensures value { OnOk result (kept_with self.old line (Condition child parent values) ≡ Ok self.new) }
-        ensures fault { IfErr result (λ e. IsFound (fault_of e) (in_line line (kept_with self.old line (Condition child parent values)))) }
+        ensures fault { let kept = kept_with self.old line (Condition child parent values) in
+            FailsAs fault_of result (in_line line kept) }
     {
         if let Some(what) = condition_fault(alloc, self.conditions, values.as_slice())? {
             return Err(broken(line, what));
@@ -131,7 +138,7 @@ impl SpaceDraft {
     #[tactic(auto, unfolding(crate::specs::Reading::fault_after))]
     fn add_clause(&mut self, line: u32, picks: Items<NamedPick>) -> Result<(), ParamFault>
         ensures value { OnOk result (kept_with self.old line (Clause picks) ≡ Ok self.new) }
-        ensures fault { IfErr result (λ e. IsFound (fault_of e) (in_line line (kept_with self.old line (Clause picks)))) }
+        ensures fault { FailsAs fault_of result (in_line line (kept_with self.old line (Clause picks))) }
     {
         if let Some(what) = clause_fault(self.clauses, picks.as_slice()) {
             return Err(broken(line, what));

@@ -48,7 +48,8 @@ pub(crate) fn param_fault(
     values: &[Text],
     default: &str,
 ) -> Result<Option<SpaceWhat>, Memory>
-    ensures value { IfOk result (λ r. r ≡ first_broken (parameter_line_rules params.now name.now values.now default.now)) }
+    ensures value { let rules = parameter_line_rules params.now name.now values.now default.now in
+        IfOk result (λ r. r ≡ first_broken rules) }
     ensures few { IfOk result (λ r. r ≡ None → length values.now ≤ Limits.max_values) }
 {
     if params.len() >= MAX_PARAMS || values.len() > MAX_VALUES {

@@ -1,6 +1,6 @@
 //! Conditions and clauses by numbers.
-ghost use Rattle.std.specs.Prelude.{◌≡◌, Ok, IfOk, IfErr, OnOk, slice_index};
-ghost use Rattle.plain_text.specs.Faults.{IsFound};
+ghost use Rattle.std.specs.Prelude.{◌≡◌, Ok, IfOk, OnOk, slice_index};
+ghost use Rattle.plain_text.specs.Faults.{FailsAs};
 ghost use Rattle.param_files.specs.Faults.{fault_of};
 ghost use Rattle.param_files.specs.Reading;
 ghost use Rattle.param_files.specs.Reading.{all_numbered};
@@ -27,7 +27,12 @@ impl Model for NumberedRelations {
 
     ghost Value = { Reading.NumberedRelations };
 
-    ghost view = { λ n. record { conditions = n.conditions.items; condition_lines = n.condition_lines.items; clauses = n.clauses.items; clause_lines = n.clause_lines.items } };
+    ghost view = { λ n. record {
+        conditions = n.conditions.items;
+        condition_lines = n.condition_lines.items;
+        clauses = n.clauses.items;
+        clause_lines = n.clause_lines.items;
+    } };
 }
 
 impl NumberedRelations {
@@ -55,7 +60,7 @@ impl NumberedRelations {
     ) -> Result<(), ParamFault>
         requires { AreFew params.now }
         ensures value { OnOk result (numbered_with params.now self.old line statement.now ≡ Ok self.new) }
-        ensures fault { IfErr result (λ e. IsFound (fault_of e) (numbered_with params.now self.old line statement.now)) }
+        ensures fault { FailsAs fault_of result (numbered_with params.now self.old line statement.now) }
     {
         match statement {
             Statement::Nothing => Ok(()),
@@ -117,7 +122,7 @@ pub(crate) fn all_by_numbers(
 ) -> Result<NumberedRelations, ParamFault>
     requires { AreFew params.now }
     ensures value { IfOk result (λ n. all_numbered params.now relations.now ≡ Ok n) }
-    ensures fault { IfErr result (λ e. IsFound (fault_of e) (all_numbered params.now relations.now)) }
+    ensures fault { FailsAs fault_of result (all_numbered params.now relations.now) }
 {
     let mut numbers = NumberedRelations::new(alloc);
     for (line, statement) in relations {

@@ -1,7 +1,7 @@
 //! Names and values as numbers.
-ghost use Rattle.std.specs.Prelude.{◌≡◌, ◌≤◌, ◌<◌, Ok, IfOk, IfErr, IfSome, length, option_map, position, bytes_eq};
+ghost use Rattle.std.specs.Prelude.{◌≡◌, ◌≤◌, ◌<◌, Ok, IfOk, IfSome, length, option_map, position, bytes_eq};
 ghost use Rattle.std.specs.Option.{is_some};
-ghost use Rattle.plain_text.specs.Faults.{in_line, IsFound};
+ghost use Rattle.plain_text.specs.Faults.{in_line, FailsAs};
 ghost use Rattle.param_space.specs.Limits;
 ghost use Rattle.param_files.specs.Faults.{fault_of};
 ghost use Rattle.param_files.specs.Reading;
@@ -60,7 +60,8 @@ fn value_numbers(
 ) -> Result<Option<Vec<u16>>, Memory>
     requires in_range { param < length params.now }
     requires few { AreFew params.now }
-    ensures { IfOk result (λ r. option_map (λ v. v.items) r ≡ all_some (Reading.value_number params.now param) values.now) }
+    ensures { let number = Reading.value_number params.now param in
+        IfOk result (λ r. option_map (λ v. v.items) r ≡ all_some number values.now) }
 {
     let mut numbers = Vec::new(alloc);
     for value in values {
@@ -84,7 +85,8 @@ pub(crate) fn numbered_condition(
 ) -> Result<Condition, ParamFault>
     requires { AreFew params.now }
     ensures value { IfOk result (λ c. condition_numbered params.now child.now parent.now values.now ≡ Ok c) }
-    ensures fault { IfErr result (λ e. IsFound (fault_of e) (in_line line (of_space (condition_numbered params.now child.now parent.now values.now)))) }
+    ensures fault { let found = condition_numbered params.now child.now parent.now values.now in
+        FailsAs fault_of result (in_line line (of_space found)) }
 {
     let Some(child) = param_number(params, child) else {
         return Err(broken(line, SpaceWhat::UnknownName));
@@ -155,7 +157,7 @@ pub(crate) fn numbered_clause(
 ) -> Result<Forbidden, ParamFault>
     requires { AreFew params.now }
     ensures value { IfOk result (λ f. clause_numbered params.now picks.now ≡ Ok f) }
-    ensures fault { IfErr result (λ e. IsFound (fault_of e) (in_line line (of_space (clause_numbered params.now picks.now)))) }
+    ensures fault { FailsAs fault_of result (in_line line (of_space (clause_numbered params.now picks.now))) }
 {
     if !has_names(params, picks) {
         return Err(broken(line, SpaceWhat::UnknownName));

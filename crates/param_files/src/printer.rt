@@ -1,6 +1,5 @@
 //! A space as the text of a parameter file.
-ghost use Rattle.std.specs.Prelude.{◌≡◌, ◌≤◌, ◌++◌, [], Ok, IfOk, OnOk, OnErr, string_bytes, slice_index_or, length, map, codes};
-ghost use Rattle.std.specs.List.{flat_map};
+ghost use Rattle.std.specs.Prelude.{◌≡◌, ◌≤◌, ◌++◌, [], Ok, IfOk, OnOk, OnErr, string_bytes, slice_index_or, length, codes};
 ghost use Rattle.plain_text.specs.Limits.{max_bytes};
 ghost use Rattle.param_space.specs.Faults.{IsSpace};
 ghost use Rattle.param_files.specs.Reading.{params_read};
@@ -69,7 +68,7 @@ fn parted_values(
     number: u16,
     values: &[u16],
 ) -> Result<String, Memory>
-    ensures { IfOk result (λ t. string_bytes t ≡ PrintedLines.with_commas (map (PrintedLines.value_of params.now number) values.now)) }
+    ensures { IfOk result (λ t. string_bytes t ≡ PrintedLines.values_text params.now number values.now) }
 {
     let mut chosen = Vec::new(alloc);
     for value in values {
@@ -99,7 +98,7 @@ fn pick_text(alloc: Global, params: &[Param], pick: &Pick) -> Result<String, Mem
 
 /// The picks parted by a comma and a space.
 fn parted_picks(alloc: Global, params: &[Param], picks: &[Pick]) -> Result<String, Memory>
-    ensures { IfOk result (λ t. string_bytes t ≡ PrintedLines.with_commas (map (PrintedLines.pick_text params.now) picks.now)) }
+    ensures { IfOk result (λ t. string_bytes t ≡ PrintedLines.picks_text params.now picks.now) }
 {
     let mut pairs = Vec::new(alloc);
     for pick in picks {
@@ -118,7 +117,7 @@ fn clause_line(alloc: Global, params: &[Param], clause: &Forbidden) -> Result<St
 
 /// Appends the lines of the parameters; some of them where there is no memory left.
 fn push_params(alloc: Global, text: &mut String, params: &[Param]) -> Result<(), Memory>
-    ensures { OnOk result (string_bytes text.new ≡ string_bytes text.old ++ flat_map (λ p. PrintedLines.param_line p ++ codes "\n") params.now) }
+    ensures { OnOk result (string_bytes text.new ≡ string_bytes text.old ++ PrintedLines.params_text params.now) }
 {
     for param in params {
         text.push_str(param_line(alloc, param)?.as_str())?;
@@ -133,7 +132,8 @@ fn push_conditions(
     params: &[Param],
     conditions: &[Condition],
 ) -> Result<(), Memory>
-    ensures { OnOk result (string_bytes text.new ≡ string_bytes text.old ++ flat_map (λ c. PrintedLines.condition_line params.now c ++ codes "\n") conditions.now) }
+    ensures { let lines = PrintedLines.conditions_text params.now conditions.now in
+        OnOk result (string_bytes text.new ≡ string_bytes text.old ++ lines) }
 {
     for condition in conditions {
         text.push_str(condition_line(alloc, params, condition)?.as_str())?;
@@ -148,7 +148,8 @@ fn push_clauses(
     params: &[Param],
     clauses: &[Forbidden],
 ) -> Result<(), Memory>
-    ensures { OnOk result (string_bytes text.new ≡ string_bytes text.old ++ flat_map (λ f. PrintedLines.clause_line params.now f ++ codes "\n") clauses.now) }
+    ensures { let lines = PrintedLines.clauses_text params.now clauses.now in
+        OnOk result (string_bytes text.new ≡ string_bytes text.old ++ lines) }
 {
     for clause in clauses {
         text.push_str(clause_line(alloc, params, clause)?.as_str())?;
@@ -175,7 +176,8 @@ fn space_text(alloc: Global, space: &Space) -> Result<String, Memory>
 pub fn print_params(space: &Space, out: &mut Vec<u8>) -> Result<(), Memory>
     ensures ok { OnOk result (out.new.items ≡ out.old.items ++ PrintedLines.space_text space.now) }
     ensures err { OnErr result (out.new.items ≡ out.old.items) }
-    ensures reads_back { OnOk result (length (PrintedLines.space_text space.now) ≤ max_bytes → params_read (PrintedLines.space_text space.now) ≡ Ok space.now) }
+    ensures reads_back { let text = PrintedLines.space_text space.now in
+        OnOk result (length text ≤ max_bytes → params_read text ≡ Ok space.now) }
 {
     let text = space_text(*out.allocator(), space)?;
     out.extend_from_slice(text.as_str().as_bytes())?;

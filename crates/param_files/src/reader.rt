@@ -1,9 +1,8 @@
 //! The space that a parameter file states.
-ghost use Rattle.std.specs.Prelude.{◌≡◌, ◌^◌, ◌<◌, Ok, OnOk, IfOk, IfErr, length, option_map};
-ghost use Rattle.plain_text.specs.Faults.{in_line, IsFound};
-ghost use Rattle.param_space.specs.Faults.{space_fault};
+ghost use Rattle.std.specs.Prelude.{◌≡◌, ◌^◌, ◌<◌, Ok, OnOk, IfOk, IfErr, length};
+ghost use Rattle.plain_text.specs.Faults.{in_line, FailsAs};
 ghost use Rattle.param_files.specs.Faults.{fault_of};
-ghost use Rattle.param_files.specs.Reading.{line_stated, lists_of, breach_fault, without_fault, params_read};
+ghost use Rattle.param_files.specs.Reading.{line_stated, space_made, params_read};
 ghost use Rattle.param_files.specs.KeptStatements.{kept_line, kept_lines};
 ghost use Rattle.param_files.specs.StatementTokens.{AreStatements, IsFormless};
 
@@ -21,7 +20,7 @@ use std::str;
 #[tactic(auto, unfolding(crate::specs::Reading::line_stated))]
 fn statement_in(alloc: Global, line: u32, bytes: &[u8]) -> Result<Statement, ParamFault>
     ensures value { IfOk result (λ s. line_stated bytes.now ≡ Ok s) }
-    ensures fault { IfErr result (λ e. IsFound (fault_of e) (in_line line (line_stated bytes.now))) }
+    ensures fault { FailsAs fault_of result (in_line line (line_stated bytes.now)) }
 {
     let Ok(text) = str::from_utf8(bytes) else {
         return Err(ParamFault::At {
@@ -43,7 +42,7 @@ impl SpaceDraft {
     /// Keeps what the line with this number states. Fails with the first rule that it breaks.
     fn add_line(&mut self, alloc: Global, number: u32, bytes: &[u8]) -> Result<(), ParamFault>
         ensures value { OnOk result (kept_line self.old number bytes.now ≡ Ok self.new) }
-        ensures fault { IfErr result (λ e. IsFound (fault_of e) (in_line number (kept_line self.old number bytes.now))) }
+        ensures fault { FailsAs fault_of result (in_line number (kept_line self.old number bytes.now)) }
     {
         let statement = statement_in(alloc, number, bytes)?;
         self.add(alloc, number, statement)
@@ -54,7 +53,7 @@ impl SpaceDraft {
 fn read_lines(alloc: Global, text: &[u8]) -> Result<SpaceDraft, ParamFault>
     requires { length text.now < 2 ^ 32 }
     ensures value { IfOk result (λ k. kept_lines text.now ≡ Ok k) }
-    ensures fault { IfErr result (λ e. IsFound (fault_of e) (kept_lines text.now)) }
+    ensures fault { FailsAs fault_of result (kept_lines text.now) }
 {
     let mut kept = SpaceDraft::new(alloc);
     for line in numbered_lines(text) {
@@ -70,8 +69,8 @@ fn space_of(
     params: Vec<Param>,
     numbered: NumberedRelations,
 ) -> Result<Space, ParamFault>
-    ensures value { IfOk result (λ s. without_fault (option_map (λ b. breach_fault numbered b.part b.place b.what) (space_fault (lists_of params.items numbered))) (lists_of params.items numbered) ≡ Ok s) }
-    ensures fault { IfErr result (λ e. IsFound (fault_of e) (without_fault (option_map (λ b. breach_fault numbered b.part b.place b.what) (space_fault (lists_of params.items numbered))) (lists_of params.items numbered))) }
+    ensures value { IfOk result (λ s. space_made params.items numbered ≡ Ok s) }
+    ensures fault { FailsAs fault_of result (space_made params.items numbered) }
 {
     let NumberedRelations {
         conditions,
@@ -98,7 +97,7 @@ fn space_of(
 #[tactic(auto, unfolding(crate::specs::Reading::params_read))]
 fn space_in(alloc: Global, text: &[u8]) -> Result<Space, ParamFault>
     ensures value { IfOk result (λ s. params_read text.now ≡ Ok s) }
-    ensures fault { IfErr result (λ e. IsFound (fault_of e) (params_read text.now)) }
+    ensures fault { FailsAs fault_of result (params_read text.now) }
 {
     if text.len() > MAX_BYTES {
         return Err(broken(0, SpaceWhat::TooMany));
@@ -122,7 +121,7 @@ fn space_in(alloc: Global, text: &[u8]) -> Result<Space, ParamFault>
 /// The first rule that is broken, in its line, or [`ParamFault::Memory`].
 pub fn read_params(alloc: Global, text: &[u8]) -> Result<Space, ParamFault>
     ensures value { IfOk result (λ s. params_read text.now ≡ Ok s) }
-    ensures fault { IfErr result (λ e. IsFound (fault_of e) (params_read text.now)) }
+    ensures fault { FailsAs fault_of result (params_read text.now) }
     ensures lines { IfOk result (λ _. AreStatements text.now) }
     ensures form { IfErr result (IsFormless text.now) }
 {
