@@ -51,9 +51,9 @@ impl Spawner for ToySeat {
     ghost use Rattle.objective.specs.Costs.{seen};
     ghost use Rattle.objective.specs.declared.Outcome.{Outcome};
     ghost use Rattle.outside.specs.AnswerLines.{answer_line};
-    ghost use Rattle.outside.specs.Changes.{has_failed, has_ended, has_look_failed, started_after, failed_after};
+    ghost use Rattle.outside.specs.Changes.{has_failed, has_ended, has_look_failed, started_after, failed_after_start, failed_after_look};
     ghost use Rattle.outside.specs.Counts.{count_after};
-    ghost use Rattle.wrapper_lines.specs.ResultLines.{answer_of};
+    ghost use Rattle.outside.specs.ReadOutputs.{ReadsAs};
     ghost use Rattle.wrapper_lines.specs.Runs.{AreWordsOf};
     ghost use Rattle.wrapper_lines.specs.declared.runs.Key.{Key};
     ghost use Rattle.toy_bench.specs.Outcomes.{toy_outcome, toy_looks};
@@ -74,7 +74,7 @@ impl Spawner for ToySeat {
         ensures held { self.new.told.held ≡ false }
         ensures started { self.new.told.started ≡ started_after result self.old.told.started words.now }
         ensures folders { self.new.told.folders ≡ started_after result self.old.told.folders dir.now }
-        ensures failed_run { self.new.told.failed_run ≡ failed_after (has_failed result) (Some run.now) self.old.told.failed_run }
+        ensures failed_run { self.new.told.failed_run ≡ failed_after_start result run.now self.old.told }
         ensures counted { self.new.told.faults ≡ count_after (has_failed result) self.old.told.faults }
         ensures counts { self.old.told.faults ≤ self.new.told.faults }
     {
@@ -97,7 +97,7 @@ impl Spawner for ToySeat {
         ensures idle { self.new.told.idle ≡ (has_ended result || has_look_failed result) }
         ensures started { self.new.told.started ≡ self.old.told.started }
         ensures folders { self.new.told.folders ≡ self.old.told.folders }
-        ensures failed_run { self.new.told.failed_run ≡ failed_after (has_look_failed result) self.old.told.current self.old.told.failed_run }
+        ensures failed_run { self.new.told.failed_run ≡ failed_after_look result self.old.told }
         ensures counted { self.new.told.faults ≡ count_after (has_look_failed result) self.old.told.faults }
         ensures counts { self.old.told.faults ≤ self.new.told.faults }
     {
@@ -111,8 +111,10 @@ impl Spawner for ToySeat {
     /// The result line that shows what the run comes to under its cutoff.
     fn output(&self) -> &[u8]
         requires { IsTrue self.now.told.held }
-        ensures line { IfSome self.now.told.current (λ run. result.now ≡ answer_line (seen (toy_outcome run.key) run.cutoff.0)) }
-        ensures reads { (outcome : Key → Outcome) → Some toy_outcome ≡ Some outcome → IfSome self.now.told.current (λ run. answer_of result.now run.cutoff.0 ≡ seen (outcome run.key) run.cutoff.0) }
+        ensures line { IfSome self.now.told.current (λ run.
+            result.now ≡ answer_line (seen (toy_outcome run.key) run.cutoff.0)) }
+        ensures reads { (outcome : Key → Outcome) → Some toy_outcome ≡ Some outcome
+            → ReadsAs outcome self.now.told.current result.now }
     {
         self.child.output()
     }
