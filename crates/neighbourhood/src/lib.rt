@@ -42,7 +42,8 @@ fn push_exchange(
     requires belongs { Belongs space.now.params config.now }
     requires param_in_range { param < length space.now.params }
     requires value_in_range { value < value_count space.now.params param }
-    ensures { OnOk result (found.new.items ≡ found.old.items ++ filter (is_allowed space.now) (exchange_of space.now config.now param value ∷ [])) }
+    ensures { let exchange = exchange_of space.now config.now param value in
+        OnOk result (found.new.items ≡ found.old.items ++ filter (is_allowed space.now) (exchange ∷ [])) }
 {
     let mut neighbour = config.copy()?;
     neighbour.set(param, value);
@@ -63,7 +64,8 @@ fn push_exchanges(
 ) -> Result<(), Memory>
     requires belongs { Belongs space.now.params config.now }
     requires in_range { param < length space.now.params }
-    ensures { OnOk result (found.new.items ≡ found.old.items ++ filter (is_allowed space.now) (exchanges space.now config.now param)) }
+    ensures { let allowed = filter (is_allowed space.now) (exchanges space.now config.now param) in
+        OnOk result (found.new.items ≡ found.old.items ++ allowed) }
 {
     let present = config.values()[param as usize];
     for value in 0..param_value_count(space, param) {

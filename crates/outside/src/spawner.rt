@@ -52,7 +52,8 @@ pub trait Spawner: Drop {
     /// truth shows under the run's cutoff.
     fn output(&self) -> &[u8]
         requires { IsTrue (told self.now).held }
-        ensures { (outcome : Key → Outcome) → truth ≡ Some outcome → ReadsAs outcome (told self.now).current result.now };
+        ensures { (outcome : Key → Outcome) → truth ≡ Some outcome
+            → ReadsAs outcome (told self.now).current result.now };
 
     /// Kills the child and waits for its end. It can't be refused.
     fn kill(&mut self)
