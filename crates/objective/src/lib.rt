@@ -119,15 +119,9 @@ impl Model for Limits {
     ghost invariant = { λ l. AreInRange l.cutoff.0 l.floor.0 };
 
     ghost inverse = { λ b. record {
-<<<<<<< HEAD
       cutoff = record { 0 = b.cutoff };
       factor = b.factor;
       floor = record { 0 = b.floor };
-=======
-        cutoff = record { 0 = b.cutoff };
-        factor = b.factor;
-        floor = record { 0 = b.floor };
->>>>>>> 298e86375dbc3b611ddfbc13ca634e594f23f676
     } };
 }
 
@@ -137,17 +131,9 @@ impl PartialEq for Limits {
     ghost use Rattle.std.specs.Ordering.{on, eq_of_both};
     ghost use Rattle.std.proofs.Common.{rules};
 
-<<<<<<< HEAD
     ghost eq = { eq_of_both
         (on (λ l. l.cutoff) nat_eq)
         (eq_of_both (on (λ l. l.factor) ⟦<Factor as PartialEq>⟧.eq) (on (λ l. l.floor) nat_eq)) };
-=======
-    ghost eq = {
-        eq_of_both
-            (on (λ l. l.cutoff) nat_eq)
-            (eq_of_both (on (λ l. l.factor) ⟦<Factor as PartialEq>⟧.eq) (on (λ l. l.floor) nat_eq))
-    };
->>>>>>> 298e86375dbc3b611ddfbc13ca634e594f23f676
 
     ghost laws = { Prim.search (comparing, rules) };
 

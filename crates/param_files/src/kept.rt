@@ -28,17 +28,10 @@ impl Model for SpaceDraft {
     ghost Value = { KeptStatements.SpaceDraft };
 
     ghost view = { λ k. record {
-<<<<<<< HEAD
       params = k.params.items;
       relations = k.relations.items;
       conditions = k.conditions;
       clauses = k.clauses;
-=======
-        params = k.params.items;
-        relations = k.relations.items;
-        conditions = k.conditions;
-        clauses = k.clauses;
->>>>>>> 298e86375dbc3b611ddfbc13ca634e594f23f676
     } };
 }
 
