@@ -1,10 +1,13 @@
 -- A search over any comparer, as a machine that takes one reply at a time.
-use Rattle.std.specs.Prelude.{ℕ, zero, suc, ◌+◌, ◌-◌, ◌*◌, ◌==◌, Bool, true, false, List, [], ◌∷◌, Option, Some, None, if◌then◌else◌}
+use Rattle.std.specs.Prelude.{ℕ, zero, suc, ◌+◌, ◌-◌, ◌*◌, ◌==◌, ◌≡◌, Bool, true, false, List, [], ◌∷◌, Option, Some, None, if◌then◌else◌}
+use Rattle.uncapped.specs.Procedure.{Settings}
 use Rattle.uncapped.specs.Setup.{Setup}
+use Rattle.ils_face.specs.declared.asks.Ask.{Ask}
+use Rattle.ils_face.specs.declared.asks.Ask.TheVariants.{End}
 use Rattle.ils_face.specs.declared.asks.Reply.{Reply}
 use Rattle.ils_face.specs.Replies.{ask_for}
-use Rattle.ils_face.specs.Rules.{Rules}
-use Rattle.ils_face.specs.Views.{View}
+use Rattle.ils_face.specs.Rules.{Rules, AreRules}
+use Rattle.ils_face.specs.Views.{View, AreFitting}
 use Rattle.ils_frame.specs.declared.course.Course.{Course}
 use Rattle.ils_frame.specs.declared.purpose.Purpose.{Purpose}
 use Rattle.ils_frame.specs.declared.purpose.Purpose.TheVariants.{Opening}
@@ -18,6 +21,14 @@ pub record Machine (S : Type 0) : Type 0 where
   pub purpose : Purpose  -- what the present comparison is for
   pub event : ℕ  -- the number of the next draw
   pub over : Bool  -- the budget is used up
+
+-- the budget is used up
+abbrev pub is_spent : {S : Type 0} → Parts S → ℕ → S → Bool
+is_spent parts budget c = (parts.last c).compared == budget
+
+-- the next comparison begins, where one is left in the budget
+abbrev pub begun_within : {S : Type 0} → Parts S → ℕ → S → Settings → Settings → S
+begun_within parts budget c θ φ = if is_spent parts budget c then c else parts.begun c θ φ ((parts.last c).compared + 1)
 
 -- the rules and the replies, oldest first
 pub record History : Type 0 where
@@ -76,3 +87,10 @@ module _ {S : Type 0} (parts : Parts S) (first : S) (rules : Rules) where
   -- what a search shows by its rules and replies
   abbrev pub shown_after : List Reply → View
   shown_after rs = view_of parts (setup_of rules) (machine_after rs)
+
+  -- what a search keeps: its replies fit, and led to its machine
+  pub record IsSearch (replies : List Reply) (machine : Machine S) (shown : Ask) : Type 0 where
+    pub ruled : AreRules rules
+    pub reached : machine ≡ machine_after replies
+    pub fitting : AreFitting shown_after replies
+    pub end : shown ≡ End  -- what is shown as the ask at the end

@@ -1,8 +1,8 @@
 //! The begin of a comparison.
-ghost use Rattle.std.specs.Prelude.{◌≡◌, ◌==◌, ◌+◌, ◌≤◌, not, None, IfOk, [], if◌then◌else◌};
+ghost use Rattle.std.specs.Prelude.{◌≡◌, ◌≤◌, not, None, IfOk, []};
 ghost use Rattle.ils_face.specs.Rules.{AreRules};
 ghost use Rattle.ils_frame.specs.Machine;
-ghost use Rattle.ils_frame.specs.Machine.{machine_after, machine_of};
+ghost use Rattle.ils_frame.specs.Machine.{is_spent, begun_within, machine_after, machine_of};
 ghost use Rattle.ils_face.specs.Setups.{setup_of};
 ghost use Rattle.ils_frame.specs.Comparers.{question_in};
 ghost use Rattle.ils_frame.specs.UpcomingComparison.{upcoming_seen};
@@ -23,8 +23,8 @@ use std::alloc::Global;
 fn begins<C: Comparer>(comparer: &mut C, rules: &Rules, first: Config, second: Config) -> bool
     requires ready { question_in (C.parts.stage comparer.old) ≡ None }
     requires within { (C.parts.last comparer.old).compared ≤ rules.now.budget }
-    ensures comparer { comparer.new ≡ (if (C.parts.last comparer.old).compared == rules.now.budget then comparer.old else C.parts.begun comparer.old first second ((C.parts.last comparer.old).compared + 1)) }
-    ensures left { result ≡ not ((C.parts.last comparer.old).compared == rules.now.budget) }
+    ensures comparer { comparer.new ≡ begun_within C.parts rules.now.budget comparer.old first second }
+    ensures left { result ≡ not (is_spent C.parts rules.now.budget comparer.old) }
 {
     let compared = comparer.compared();
     if compared == rules.budget {
@@ -43,7 +43,8 @@ pub(crate) fn begin<C: Comparer>(
 )
     requires ready { question_in (C.parts.stage comparer.old) ≡ None }
     requires within { (C.parts.last comparer.old).compared ≤ rules.now.budget }
-    ensures { machine_of comparer.new course.new ≡ Machine.begin C.parts (setup_of rules.now) comparer.old (upcoming_seen course.old.purpose course.old.event upcoming) }
+    ensures { let next = upcoming_seen course.old.purpose course.old.event upcoming in
+        machine_of comparer.new course.new ≡ Machine.begin C.parts (setup_of rules.now) comparer.old next }
 {
     match upcoming {
         Upcoming::Along { first, second } => {
@@ -77,7 +78,8 @@ pub(crate) fn set_out<C: Comparer>(
 ) -> Result<Course, Memory>
     requires opened { comparer.old ≡ C.at_open rules.now }
     requires ruled { AreRules rules.now }
-    ensures { IfOk result (λ course. machine_of comparer.new course ≡ machine_after C.parts (C.at_open rules.now) rules.now []) }
+    ensures { let first = C.at_open rules.now in
+        IfOk result (λ course. machine_of comparer.new course ≡ machine_after C.parts first rules.now []) }
 {
     let mut course = Course {
         purpose: Purpose::Opening,

@@ -100,8 +100,11 @@ pub trait Comparer: Sized + Drop {
         ensures { result.0 ≡ (parts.last self.now).sum };
 
     /// What holds whatever fitting replies come.
-    ghost steady: { (rules : Rules) → AreRules rules → IsSteadyComparer parts (fit rules) rules.max_runs (IsConfig rules.space) (defaults rules.space.params) (at_open rules) };
+    ghost steady: { (rules : Rules) → AreRules rules → let start = defaults rules.space.params in
+        IsSteadyComparer parts (fit rules) rules.max_runs (IsConfig rules.space) start (at_open rules) };
 
     /// With the replies of a table it does what the procedure does.
-    ghost keeps: { (rules : Rules) (T : Table) → AreRules rules → Keeps parts (fit rules) (stands rules (sums_under rules T)) (coming rules (sums_under rules T)) (better rules (sums_under rules T)) (opening rules (sums_under rules T)) (setup_of rules) (sums_under rules T) (at_open rules) };
+    ghost keeps: { (rules : Rules) (T : Table) → AreRules rules → let sums = sums_under rules T in
+        Keeps parts (fit rules) (stands rules sums) (coming rules sums) (better rules sums) (opening rules sums)
+        (setup_of rules) sums (at_open rules) };
 }

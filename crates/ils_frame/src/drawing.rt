@@ -44,7 +44,8 @@ pub(crate) fn neighbours_in_order(
 ) -> Result<Vec<Config>, Memory>
     requires config { IsConfig rules.now.space config.now }
     requires event { event < 2 ^ 61 }
-    ensures { IfOk result (λ around. around.items ≡ NextComparison.neighbours_in_order (setup_of rules.now) config.now event) }
+    ensures { let setup = setup_of rules.now in
+        IfOk result (λ around. around.items ≡ NextComparison.neighbours_in_order setup config.now event) }
 {
     let found = neighbours(alloc, &rules.space, config)?;
     let count = found.len() as u32;

@@ -30,18 +30,14 @@ pub struct Ils<C: Comparer> {
 }
 
 impl<C: Comparer> Model for Ils<C> {
-    ghost use Rattle.std.specs.Prelude.{◌≡◌};
-    ghost use Rattle.ils_face.specs.Rules.{AreRules};
-    ghost use Rattle.ils_face.specs.Views.{AreFitting};
-    ghost use Rattle.ils_face.specs.declared.asks.Ask.TheVariants.{End};
-    ghost use Rattle.ils_frame.specs.Machine.{History, machine_of};
-    ghost use Rattle.ils_frame.specs.Machine.{machine_after, shown_after};
+    ghost use Rattle.ils_frame.specs.Machine.{History, IsSearch, machine_of};
 
     ghost Value = { History };
 
     ghost view = { λ s. record { rules = s.rules.value; replies = s.replies.items } };
 
-    ghost invariant = { λ s. record { ruled : AreRules s.rules.value; reached : machine_of s.comparer s.course ≡ machine_after C.parts (C.at_open s.rules.value) s.rules.value s.replies.items; fitting : AreFitting (shown_after C.parts (C.at_open s.rules.value) s.rules.value) s.replies.items; end : s.end ≡ End } };
+    ghost invariant = { λ s. let rules = s.rules.value in
+        IsSearch C.parts (C.at_open rules) rules s.replies.items (machine_of s.comparer s.course) s.end };
 }
 
 impl<C: Comparer> Search for Ils<C> {
@@ -60,15 +56,21 @@ impl<C: Comparer> Search for Ils<C> {
 
     ghost shown = { λ rules replies. shown_after C.parts (C.at_open rules) rules replies };
 
-    ghost plain = { λ rules T. run_after (sums_under rules T) (search_after (setup_of rules) (C.better rules (sums_under rules T)) (C.opening rules (sums_under rules T)) (at_first (setup_of rules))) };
+    ghost plain = { λ rules T. let sums = sums_under rules T in let setup = setup_of rules in
+        run_after sums (search_after setup (C.better rules sums) (C.opening rules sums) (at_first setup)) };
 
     ghost steady = { λ rules are. laws_steady C.parts (C.at_open rules) rules are (C.fit rules) (C.steady rules are) };
 
-    ghost follows = { λ rules T are. laws_follow C.parts (C.at_open rules) rules are (C.fit rules) (C.steady rules are) (C.stands rules (sums_under rules T)) (C.coming rules (sums_under rules T)) (C.better rules (sums_under rules T)) (C.opening rules (sums_under rules T)) T (C.keeps rules T are) };
+    ghost follows = { λ rules T are. let sums = sums_under rules T in
+        laws_follow C.parts (C.at_open rules) rules are (C.fit rules) (C.steady rules are) (C.stands rules sums)
+        (C.coming rules sums) (C.better rules sums) (C.opening rules sums) T (C.keeps rules T are) };
 
-    ghost finishes = { λ rules T are. laws_finish C.parts (C.at_open rules) rules are (C.fit rules) (C.steady rules are) (C.stands rules (sums_under rules (quiet T))) (C.coming rules (sums_under rules (quiet T))) (C.better rules (sums_under rules (quiet T))) (C.opening rules (sums_under rules (quiet T))) T (C.keeps rules (quiet T) are) };
+    ghost finishes = { λ rules T are. let sums = sums_under rules (quiet T) in
+        laws_finish C.parts (C.at_open rules) rules are (C.fit rules) (C.steady rules are) (C.stands rules sums)
+        (C.coming rules sums) (C.better rules sums) (C.opening rules sums) T (C.keeps rules (quiet T) are) };
 
-    ghost aborts = { λ rules T are. laws_abort C.parts (C.at_open rules) rules are (C.fit rules) (C.steady rules are) (C.stands rules) (C.coming rules) (C.better rules) (C.opening rules) T (λ T. C.keeps rules T are) };
+    ghost aborts = { λ rules T are. laws_abort C.parts (C.at_open rules) rules are (C.fit rules) (C.steady rules are)
+        (C.stands rules) (C.coming rules) (C.better rules) (C.opening rules) T (λ T. C.keeps rules T are) };
 
     fn open(alloc: Global, rules: &Rules) -> Result<Ils<C>, Memory> {
         let kept = rules.copy()?;

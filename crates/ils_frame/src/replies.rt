@@ -22,7 +22,10 @@ impl Model for Replies {
 
     ghost Value = { HeldReplies };
 
-    ghost view = { λ r. record { items = r.common.value.items ++ r.further.items; room = vec_capacity r.further - length r.further.items } };
+    ghost view = { λ r. record {
+      items = r.common.value.items ++ r.further.items;
+      room = vec_capacity r.further - length r.further.items;
+    } };
 }
 
 impl Replies {

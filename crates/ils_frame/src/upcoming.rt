@@ -116,7 +116,8 @@ fn returning(more: u32, ils: Config, found: Config, event: u64) -> Result<Upcomi
 /// is improved.
 fn next_turn(rules: &Rules, moment: Moment, turns: u32, ils: Config) -> Result<Upcoming, Memory>
     requires { GoesOnFrom rules.now moment (2 ^ 59) ils }
-    ensures { MakesReady result (NextComparison.next_turn (setup_of rules.now) moment.compared turns ils moment.event) }
+    ensures { let setup = setup_of rules.now in
+        MakesReady result (NextComparison.next_turn setup moment.compared turns ils moment.event) }
 {
     let Moment {
         alloc,
@@ -162,7 +163,8 @@ fn next_after(
     found: Config,
 ) -> Result<Upcoming, Memory>
     requires { GoesOnFrom rules.now moment (2 ^ 59) found }
-    ensures { MakesReady result (NextComparison.next_after (setup_of rules.now) moment.compared after found moment.event) }
+    ensures { let setup = setup_of rules.now in
+        MakesReady result (NextComparison.next_after setup moment.compared after found moment.event) }
 {
     match after {
         After::First => next_turn(rules, moment, rules.budget + 1, found),
@@ -180,8 +182,8 @@ fn improving(
     neighbours: Vec<Config>,
 ) -> Result<Upcoming, Memory>
     requires { GoesOnFrom rules.now moment (2 ^ 59) current }
-    ensures { let around = neighbours.items in
-        MakesReady result (NextComparison.next_improving (setup_of rules.now) moment.compared after left current around moment.event) }
+    ensures { let next = NextComparison.next_improving (setup_of rules.now) moment.compared after left current in
+        MakesReady result (next neighbours.items moment.event) }
 {
     match first_among(after, left, current, neighbours)? {
         Among::Compared {
@@ -204,7 +206,8 @@ fn improving(
 /// The next random configuration is tried, or else the first improvement begins.
 fn next_tried(rules: &Rules, moment: Moment, more: u32, current: Config) -> Result<Upcoming, Memory>
     requires { GoesOnFrom rules.now moment (2 ^ 58) current }
-    ensures { MakesReady result (NextComparison.next_tried (setup_of rules.now) moment.compared more current moment.event) }
+    ensures { let setup = setup_of rules.now in
+        MakesReady result (NextComparison.next_tried setup moment.compared more current moment.event) }
 {
     let Moment {
         alloc,
@@ -239,8 +242,8 @@ fn next_won(
     winner: &Config,
 ) -> Result<Upcoming, Memory>
     requires { GoesOnFrom rules.now moment (2 ^ 58) winner.now }
-    ensures { MakesReady result
-        (NextComparison.next_won (setup_of rules.now) moment.compared after.now left winner.now moment.event) }
+    ensures { let setup = setup_of rules.now in
+        MakesReady result (NextComparison.next_won setup moment.compared after.now left winner.now moment.event) }
 {
     let around = neighbours_in_order(moment.alloc, rules, winner, moment.event)?;
     let (after, current) = (after.copy()?, winner.copy()?);
@@ -255,7 +258,8 @@ fn next_restarted(
     best: &Config,
 ) -> Result<Upcoming, Memory>
     requires { GoesOnFrom rules.now moment (2 ^ 58) best.now }
-    ensures { MakesReady result (NextComparison.next_restarted (setup_of rules.now) moment.compared more best.now moment.event) }
+    ensures { let setup = setup_of rules.now in
+        MakesReady result (NextComparison.next_restarted setup moment.compared more best.now moment.event) }
 {
     if restarts(rules, moment.event) {
         let anew = random_config(moment.alloc, rules, moment.event + 1)?;
