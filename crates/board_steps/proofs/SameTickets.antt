@@ -27,7 +27,7 @@ same_setting-Decides one other =
     (λ p i. record { name = p.0 i; value = p.1 i }) (λ same. (ap (λ s. s.name) same, ap (λ s. s.value) same))
 
 -- of keys
-same_key-Decides : (one other : Key) → Decides (same_key one other) (one ≡ other)
+pub same_key-Decides : (one other : Key) → Decides (same_key one other) (one ≡ other)
 same_key-Decides one other =
     let settings = slice_eq-Decides same_setting-Decides one.settings other.settings (pointwise same_setting one.settings other.settings) refl in
     let seed = Decides-and _ _ (Decides-eqb one.seed other.seed) settings in
@@ -38,7 +38,7 @@ same_key-Decides one other =
     (λ same. (ap (λ k. k.instance) same, (ap (λ k. k.specifics) same, (ap (λ k. k.seed) same, ap (λ k. k.settings) same))))
 
 -- of kinds
-same_kind-Decides : (one other : Kind) → Decides (same_kind one other) (one ≡ other)
+pub same_kind-Decides : (one other : Kind) → Decides (same_kind one other) (one ≡ other)
 same_kind-Decides Asked Asked = (λ is. refl, λ same. refl)
 same_kind-Decides Ahead Ahead = (λ is. refl, λ same. refl)
 same_kind-Decides Asked Ahead = (λ is. absurd (let e : false ≡ true = is in cc), λ same. absurd (cc))

@@ -32,19 +32,21 @@ use Rattle.board_steps.proofs.RepliedAsks.{present-ask}
 use Rattle.board_steps.proofs.ShownEntries.{earlier-entries-shown}
 use Rattle.board_steps.proofs.ToldEntries.{told-abort, told-entries}
 use Rattle.pool_run.specs.Drives.{IsAskedTicket, IsDueTicket}
-use Rattle.tuner.specs.AbortCauses.{IsCell, AbortsAt, IsAbort}
+use Rattle.tuner.specs.AbortCauses.{IsCell, AbortsAt, IsAbortCause}
 use Rattle.tuner.specs.Calls.{Call}
 use Rattle.tuner.specs.CallStarts.{StartsOf}
-use Rattle.tuner.specs.Lines.{lines_with, all_lines, aborted_line, child_fault_line, no_memory_line}
-use Rattle.tuner.specs.PrintedTexts.{Reported, after_entries}
+use Rattle.tune_front.specs.RefusalLines.{no_memory_line}
+use Rattle.tuner.specs.Lines.{lines_with, all_lines, aborted_line, child_fault_line}
+use Rattle.tune_front.specs.SaidTexts.{Reported}
+use Rattle.tuner.specs.PrintedTexts.{after_entries}
 use Rattle.tuner.specs.Conducted.{Conducted, Runs}
 use Rattle.tuner.specs.ReadyToDrive.{IsBoardOf, KeepsFault}
 use Rattle.tuner.specs.SearchEnds.{IsSearched, IsTrajectoryOf, IsStoppedSearch, AreFirst}
-use Rattle.tuner.specs.SeatsTogether.{IsTakenIn}
+use Rattle.tuner.specs.KeptFaults.{IsTakenIn}
 use Rattle.tuner.specs.Tasks.{procedure_of, quiet_run, asks_over, ask_over}
-use Rattle.tuner.specs.declared.status.Status.{Status}
-use Rattle.tuner.specs.declared.status.Status.TheVariants as status
-use Rattle.tuner.specs.declared.task.Task.{Task}
+use Rattle.tune_front.specs.declared.status.Status.{Status}
+use Rattle.tune_front.specs.declared.status.Status.TheVariants as status
+use Rattle.tune_front.specs.declared.task.Task.{Task}
 use Rattle.tuner.proofs.RunEndings.{reported, is_trajectory, is_stopped, aborted_cell, aborts_at, quiet_is}
 
 -- what holds of a search holds by the rules and the replies of its board
@@ -98,7 +100,7 @@ module _ (call : Call) (task : Task) (truth : Option (Key → Outcome)) (shown :
   module _ (inv : BoardInvariant shown procedure truth b)
       (follows : (rules : Rules) (T : Table) → AreRules rules → Follows (shown rules) (sums_under rules T) (procedure rules T)) where
     -- the cell that is set as aborted, at the present ask
-    abort_on : (cell : Cell) → b.aborted ≡ Some cell → IsAsk b.problem.rules view.ask → IsAbort b.problem truth (ask_over truth own (length b.replies)) cell
+    abort_on : (cell : Cell) → b.aborted ≡ Some cell → IsAsk b.problem.rules view.ask → IsAbortCause b.problem truth (ask_over truth own (length b.replies)) cell
     unfolding plain_board
     abort_on cell is asked =
         let at = inv.aborting.at cell is in
@@ -122,7 +124,7 @@ module _ (call : Call) (task : Task) (truth : Option (Key → Outcome)) (shown :
         → Conducted call out out' result
     aborted_call cell is asked shows said =
         let F : Option (Key → Outcome) → Type 0 = λ t. IsStoppedSearch own t view.entries in
-        let G : Option (Key → Outcome) → Type 0 = λ t. IsAbort b.problem t (ask_over t own (length b.replies)) cell in
+        let G : Option (Key → Outcome) → Type 0 = λ t. IsAbortCause b.problem t (ask_over t own (length b.replies)) cell in
         let stopped : F call.truth = subst F (sym runs.tells) (is_stopped own truth procedure is_board.procedure view shows) in
         reported call out out' result (status.Aborted cell) _
         (record { task = own; run = runs_own.run; number = length b.replies; abort = subst G (sym runs.tells) (abort_on cell is asked); ended = stopped.aborted })

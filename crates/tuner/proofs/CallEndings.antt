@@ -13,28 +13,29 @@ use Rattle.scenario_files.specs.declared.faults.WordFault.TheVariants as word_fa
 use Rattle.pool_run.specs.Seats.{SeatState}
 use Rattle.tuner.specs.Calls.{Call, StatesTask, IsSeated}
 use Rattle.tuner.specs.Causes.{IsBadFile, IsUnread}
-use Rattle.tuner.specs.Lines.{seats_line}
-use Rattle.tuner.specs.PrintedTexts.{Reported}
+use Rattle.tune_front.specs.RefusalLines.{seats_line}
+use Rattle.tune_front.specs.SaidTexts.{Reported}
 use Rattle.tuner.specs.Conducted.{Conducted, IsAbout, Runs}
 use Rattle.tuner.specs.ReadyToDrive.{HasSeat}
-use Rattle.tuner.specs.Readings.{Reading, Reads, Bad, words_reading, file_by, task_by, ◌>>=◌}
-use Rattle.tuner.specs.Refusals.{IsCause, IsNext, ReportsMisuse, ReportsRefusal}
-use Rattle.tuner.specs.declared.reading.refusal.Refusal.{Refusal}
-use Rattle.tuner.specs.declared.reading.refusal.Refusal.TheVariants as refusal
-use Rattle.tuner.specs.declared.status.Status.{Status}
-use Rattle.tuner.specs.declared.status.Status.TheVariants as status
-use Rattle.tuner.specs.declared.task.Task.{Task}
+use Rattle.tune_front.specs.Readings.{Contents, Reading, Reads, Bad, Gives, words_reading, file_by, task_by, ◌>>=◌}
+use Rattle.tune_front.specs.Refusals.{IsCause, IsNext, ReportsMisuse, ReportsRefusal}
+use Rattle.tune_front.specs.declared.reading.refusal.Refusal.{Refusal}
+use Rattle.tune_front.specs.declared.reading.refusal.Refusal.TheVariants as refusal
+use Rattle.tune_front.specs.declared.status.Status.{Status}
+use Rattle.tune_front.specs.declared.status.Status.TheVariants as status
+use Rattle.tune_front.specs.declared.task.Task.{Task}
 use Rattle.tuner.proofs.RunEndings.{reported, without_memory}
 
 -- what reads by the words reads by the call
-by_call : {A : Type 0} (words : List (List ℕ)) (given : Words) (told : Option (List ℕ → Option (List ℕ))) (read : (List ℕ → Option (List ℕ)) → Words → Reading A) (r : Reading A)
-    → words_read words ≡ Ok given → IfSome told (λ c. read c given ≡ r) → IfSome told (λ c. (words_reading (words_read words) >>= read c) ≡ r)
+by_call : {A : Type 0} (words : List (List ℕ)) (given : Words) (told : Option Contents) (read : Words → Contents → Reading A) (r : Reading A)
+    → words_read words ≡ Ok given → IfSome told (λ c. read given c ≡ r)
+    → IfSome told (λ c. (words_reading (words_read words) >>= λ call. read call c) ≡ r)
 by_call words given None read r e h = tt
-by_call words given (Some c) read r e h = ap (λ w. words_reading w >>= read c) e ∙ h
+by_call words given (Some c) read r e h = ap (λ w. words_reading w >>= λ call. read call c) e ∙ h
 
 -- words and files that state a task
 pub stated_by : (call : Call) (given : Words) (task : Task) → words_read call.words ≡ Ok given
-    → IfSome call.files.contents (λ c. task_by c given ≡ Reads task) → StatesTask call.words call.files task
+    → Gives (task_by given) call.files task → StatesTask call.words call.files task
 stated_by call given task e h = record {
   called = record { given = given; reads = e };
   reads = by_call call.words given call.files.contents task_by (Reads task) e h;
@@ -48,14 +49,14 @@ ending_misused call out out' result word_fault.Memory cause said = without_memor
 
 -- files that make no task
 pub ending_refused : (call : Call) (out out' : SinkTold) (result : Status) (e : Refusal) (given : Words) → words_read call.words ≡ Ok given
-    → IsCause e call.files.contents (λ c. task_by c given) (IsNext given call.files.contents) call.files.faults call.files'.faults
+    → IsCause (task_by given) (IsNext given call.files) call.files call.files' e
     → ReportsRefusal e out out' result → Conducted call out out' result
 ending_refused call out out' result (refusal.BadFile kind name line what) given e cause said =
     let first = by_call call.words given call.files.contents task_by (Bad kind name line what) e cause in
     let bad : IsBadFile call kind line what = record { name = name; called = record { given = given; reads = e }; first = first } in
     reported call out out' result (status.BadFile kind line what) _ bad tt (record { name = name; first = first; same = refl }) said
 ending_refused call out out' result (refusal.ReadFault kind name) given e cause said =
-    let next = by_call call.words given call.files.contents (λ c w. file_by c w kind) (Reads name) e cause.1 in
+    let next = by_call call.words given call.files.contents (λ w c. file_by w c kind) (Reads name) e cause.1 in
     let unread : IsUnread call kind = record { name = name; called = record { given = given; reads = e }; next = next; rose = cause.0 } in
     reported call out out' result (status.ReadFault kind) _ unread tt (record { name = name; next = next; same = refl }) said
 ending_refused call out out' result refusal.Memory given e cause said = without_memory call out out' result said

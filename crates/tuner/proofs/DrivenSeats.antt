@@ -26,10 +26,10 @@ use Rattle.pool_run.specs.Turns.{is_take}
 use Rattle.tuner.specs.Calls.{Call}
 use Rattle.tuner.specs.CallStarts.{RanDue, StartsOf}
 use Rattle.tuner.specs.ReadyToDrive.{DrivesOn, KeepsFault}
-use Rattle.tuner.specs.SeatsTogether.{IsTakenIn}
+use Rattle.tuner.specs.KeptFaults.{IsTakenIn}
 use Rattle.tuner.specs.Tasks.{IsProcedureOf}
-use Rattle.tuner.specs.declared.status.Status.TheVariants as status
-use Rattle.tuner.specs.declared.task.Task.{Task}
+use Rattle.tune_front.specs.declared.status.Status.TheVariants as status
+use Rattle.tune_front.specs.declared.task.Task.{Task}
 use Rattle.tuner.proofs.RunEndings.{quiet_is}
 
 -- what passes a test is in the list

@@ -1,9 +1,8 @@
-mod SaidTexts
 mod RunEndings
 mod BoardEndings
 mod DrivenSeats
 mod PromiseLemmas
 mod CallEndings
-mod ReadingCauses
 mod SeatsTogether
+mod KeptFaults
 mod TakenTickets

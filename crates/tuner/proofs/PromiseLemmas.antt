@@ -20,18 +20,21 @@ use Rattle.pool_run.specs.Seats.{SeatState}
 use Rattle.tuner.specs.Calls.{Call, IsMisused, IsCalled, StatesTask, IsSeated}
 use Rattle.tuner.specs.CallStarts.{StartsDue, StartsOf}
 use Rattle.tuner.specs.Causes.{CauseOf, IsBadFile, IsTooFew}
-use Rattle.tuner.specs.Lines.{all_lines, end_line, output_of, usage_line, bad_file_line, read_fault_line, seats_line, no_memory_line, aborted_line, child_fault_line}
-use Rattle.tuner.specs.PrintedTexts.{IsSearchText, IsAbortedText, IsNoMemoryText, alone, after_entries, IsTextOf, Said, whole, unwritten, no_memory, Ending}
+use Rattle.tune_front.specs.RefusalLines.{usage_line, bad_file_line, read_fault_line, seats_line, no_memory_line}
+use Rattle.tuner.specs.Lines.{all_lines, end_line, output_of, aborted_line, child_fault_line}
+use Rattle.tune_front.specs.SaidTexts.{Said, whole, unwritten, no_memory}
+use Rattle.tuner.specs.PrintedTexts.{IsSearchText, IsAbortedText, IsNoMemoryText, alone, after_entries, IsTextOf, Printed}
 use Rattle.tuner.specs.Conducted.{Conducted}
-use Rattle.tuner.specs.Promises.{IsPrinted, IsUnabortedOutput, IsAbortedOutput, AbortSentence, PrintsFirst, none, some, begins_with_letter, is_unsaid, yields, RefusesFaulty, RefusesUnseated, NoSeatFails, IsComplete}
-use Rattle.tuner.specs.Readings.{Reading, Reads, Misused, Bad, words_reading, task_by, problem_of, ◌>>=◌}
+use Rattle.tuner.specs.AnyAnswers.{may_end_any_call, may_end_any_call_that_reads}
+use Rattle.tuner.specs.Promises.{IsPrinted, IsUnabortedOutput, IsAbortedOutput, AbortSentence, PrintsFirst, none, some, begins_with_letter, RefusesFaulty, RefusesUnseated, NoSeatFails, IsComplete}
+use Rattle.tune_front.specs.Readings.{Reading, Reads, Misused, Bad, words_reading, task_by, task_of, ◌>>=◌}
 use Rattle.tuner.specs.SearchEnds.{RanTo}
 use Rattle.tuner.specs.Tasks.{procedure_of, true_run}
-use Rattle.tuner.specs.declared.status.FileKind.{FileKind}
-use Rattle.tuner.specs.declared.status.What.{What}
-use Rattle.tuner.specs.declared.status.Status.{Status}
-use Rattle.tuner.specs.declared.status.Status.TheVariants as status
-use Rattle.tuner.specs.declared.task.Task.{Task}
+use Rattle.tune_front.specs.declared.status.FileKind.{FileKind}
+use Rattle.tune_front.specs.declared.status.What.{What}
+use Rattle.tune_front.specs.declared.status.Status.{Status}
+use Rattle.tune_front.specs.declared.status.Status.TheVariants as status
+use Rattle.tune_front.specs.declared.task.Task.{Task}
 
 -- ---- causes
 
@@ -67,7 +70,7 @@ badly_written call out out' result h = said_badly call out out' h.end result h.t
 
 -- ---- what is printed
 
-pub ending_of : (call : Call) (out out' : SinkTold) (result : Status) → Conducted call out out' result → Ending call.words call.files call.truth call.seats' out out' result
+pub ending_of : (call : Call) (out out' : SinkTold) (result : Status) → Conducted call out out' result → Printed call.words call.files call.truth call.seats' out out' result
 ending_of call out out' result h = record { end = h.end; text = h.text; wanted = h.wanted; said = h.said }
 
 -- what is printed is the output of the run
@@ -94,17 +97,17 @@ printed_text words files truth out out' text h taken =
 
 -- an answer that says what it was to say was written whole
 said_whole : (words : List (List ℕ)) (files : FilesTold) (truth : Option (Key → Outcome)) (seats : List SeatState) (out out' : SinkTold) (end result s : Status) (text : List ℕ)
-    → IsTextOf words files truth seats end text → Said out out' end result text → result ≡ s → is_unsaid s ≡ false → IsTextOf words files truth seats s text × Took out out' text
+    → IsTextOf words files truth seats end text → Said out out' end result text → result ≡ s → may_end_any_call s ≡ false → IsTextOf words files truth seats s text × Took out out' text
 said_whole words files truth seats out out' end result s text wanted (whole same taken) e h =
     let P : Status → Type 0 = λ s. IsTextOf words files truth seats s text in
     (subst P (sym same ∙ e) wanted, taken)
 said_whole words files truth seats out out' end result s text wanted (unwritten same part bad) e h =
-    absurd (let unsaid : is_unsaid s ≡ true = ap is_unsaid (sym e ∙ same) in cc)
+    absurd (let unsaid : may_end_any_call s ≡ true = ap may_end_any_call (sym e ∙ same) in cc)
 said_whole words files truth seats out out' end result s text wanted (no_memory same part) e h =
-    absurd (let unsaid : is_unsaid s ≡ true = ap is_unsaid (sym e ∙ same) in cc)
+    absurd (let unsaid : may_end_any_call s ≡ true = ap may_end_any_call (sym e ∙ same) in cc)
 
 -- what is said of an answer's whole text and of what the output took
-at_whole : (call : Call) (out out' : SinkTold) (result s : Status) → Conducted call out out' result → result ≡ s → is_unsaid s ≡ false
+at_whole : (call : Call) (out out' : SinkTold) (result s : Status) → Conducted call out out' result → result ≡ s → may_end_any_call s ≡ false
     → (P : Type 0) → ((text : List ℕ) → IsTextOf call.words call.files call.truth call.seats' s text → Took out out' text → P) → P
 at_whole call out out' result s h e unsaid P f =
     let both = said_whole call.words call.files call.truth call.seats' out out' h.end result s h.text h.wanted h.said e unsaid in
@@ -202,10 +205,10 @@ told_reading told contents read r e h =
 record AreRead (call : Call) (r : Reading Task) : Type 0 where
   contents : List ℕ → Option (List ℕ)
   told : call.files.contents ≡ Some contents
-  reads : problem_of call.words contents ≡ r
+  reads : task_of call.words contents ≡ r
 
-same_reading : (call : Call) (r q : Reading Task) → AreRead call r → IfSome call.files.contents (λ c. problem_of call.words c ≡ q) → r ≡ q
-same_reading call r q a h = sym a.reads ∙ told_reading call.files.contents a.contents (problem_of call.words) q a.told h
+same_reading : (call : Call) (r q : Reading Task) → AreRead call r → IfSome call.files.contents (λ c. task_of call.words c ≡ q) → r ≡ q
+same_reading call r q a h = sym a.reads ∙ told_reading call.files.contents a.contents (task_of call.words) q a.told h
 
 same_task : (call : Call) (p q : Task) → AreRead call (Reads p) → StatesTask call.words call.files q → p ≡ q
 same_task call p q a stated = let e = same_reading call (Reads p) (Reads q) a stated.reads in cc
@@ -218,7 +221,7 @@ not_stated call p kind name line what a stated = let e = same_reading call (Bad 
 
 -- words with a wrong key word come to the same, whatever the files are
 misused_reading : (call : Call) (r : Reading Task) (place : ℕ) → AreRead call r → IsMisused call.words place → r ≡ Misused place
-misused_reading call r place a h = sym a.reads ∙ ap (λ w. words_reading w >>= task_by a.contents) h
+misused_reading call r place a h = sym a.reads ∙ ap (λ w. words_reading w >>= λ call. task_by call a.contents) h
 
 not_misused : (call : Call) (p : Task) (place : ℕ) → AreRead call (Reads p) → IsMisused call.words place → ⊥
 not_misused call p place a h = let same = misused_reading call (Reads p) place a h in cc
@@ -226,7 +229,7 @@ not_misused call p place a h = let same = misused_reading call (Reads p) place a
 -- ---- where refusals come
 
 -- a wrong key word gives Usage
-pub refuses_misused : (call : Call) (result : Status) → CauseOf call result → (place : ℕ) → IsMisused call.words place → (result ≡ status.Usage place) ⊎ IsTrue (is_unsaid result)
+pub refuses_misused : (call : Call) (result : Status) → CauseOf call result → (place : ℕ) → IsMisused call.words place → (result ≡ status.Usage place) ⊎ IsTrue (may_end_any_call result)
 refuses_misused call status.Ok c place h = absurd (misused_called call.words place h c.run.stated.called)
 refuses_misused call (status.Usage place') c place h = let same : place' ≡ place = (let e : IsMisused call.words place' = c in cc) in inl (ap status.Usage same)
 refuses_misused call (status.BadFile kind line what) c place h = absurd (misused_called call.words place h c.called)
@@ -238,7 +241,7 @@ refuses_misused call status.NoMemory c place h = inr refl
 refuses_misused call (status.TooFewSeats asked given) c place h = absurd (misused_called call.words place h c.stated.called)
 
 faulty : (call : Call) (result : Status) → CauseOf call result → (kind : FileKind) (name : List ℕ) (line : ℕ) (what : What) → AreRead call (Bad kind name line what)
-    → (result ≡ status.BadFile kind line what) ⊎ IsTrue (yields result)
+    → (result ≡ status.BadFile kind line what) ⊎ IsTrue (may_end_any_call_that_reads result)
 faulty call status.Ok c kind name line what a = absurd (not_stated call c.task kind name line what a c.run.stated)
 faulty call (status.Usage place) c kind name line what a = absurd (let same = misused_reading call (Bad kind name line what) place a c in cc)
 faulty call (status.BadFile kind' line' what') c kind name line what a =
@@ -274,7 +277,7 @@ too_few_as call p asked given a h =
     λ i. status.TooFewSeats (w i) (g i)
 
 unseated : (call : Call) (result : Status) → CauseOf call result → (p : Task) → AreRead call (Reads p) → length call.seats < p.problem.rules.workers
-    → (result ≡ status.TooFewSeats p.problem.rules.workers (length call.seats)) ⊎ IsTrue (yields result)
+    → (result ≡ status.TooFewSeats p.problem.rules.workers (length call.seats)) ⊎ IsTrue (may_end_any_call_that_reads result)
 unseated call status.Ok c p a fewer = absurd (unseated_too call p c.task a fewer c.run.stated c.run.seated)
 unseated call (status.Usage place) c p a fewer = absurd (not_misused call p place a c)
 unseated call (status.BadFile kind line what) c p a fewer = absurd (not_bad call p kind line what a c)
@@ -310,7 +313,7 @@ unaborted call p q a stated never ended =
 -- where files and seats work and the truth never aborts
 completed : (call : Call) (result : Status) → CauseOf call result → (p : Task) → AreRead call (Reads p) → IsSeated (length call.seats) p
     → IsSome call.truth → NeverAborts p.problem.rules.limits (table_of call.truth p.problem)
-    → ¬ Rose call.files.faults call.files'.faults → NoSeatFails call.seats call.seats' → (result ≡ status.Ok) ⊎ IsTrue (is_unsaid result)
+    → ¬ Rose call.files.faults call.files'.faults → NoSeatFails call.seats call.seats' → (result ≡ status.Ok) ⊎ IsTrue (may_end_any_call result)
 completed call status.Ok c p a seated truth never reads works = inl refl
 completed call (status.Usage place) c p a seated truth never reads works = absurd (not_misused call p place a c)
 completed call (status.BadFile kind line what) c p a seated truth never reads works = absurd (not_bad call p kind line what a c)

@@ -27,15 +27,16 @@ use Rattle.tuner.specs.AbortCauses.{IsCell, AbortsAt}
 use Rattle.tuner.specs.Calls.{Call}
 use Rattle.tuner.specs.CallStarts.{StartsOf}
 use Rattle.tuner.specs.Causes.{CauseOf}
-use Rattle.tuner.specs.Lines.{no_memory_line}
-use Rattle.tuner.specs.PrintedTexts.{Said, whole, unwritten, no_memory, Reported, made, not_made, IsTextOf, alone}
+use Rattle.tune_front.specs.RefusalLines.{no_memory_line}
+use Rattle.tune_front.specs.SaidTexts.{Said, whole, unwritten, no_memory, Reported, made, not_made}
+use Rattle.tuner.specs.PrintedTexts.{IsTextOf, alone}
 use Rattle.tuner.specs.Conducted.{Conducted}
-use Rattle.tuner.specs.Promises.{EndsAs, is_unsaid}
+use Rattle.tuner.specs.AnyAnswers.{EndsAs, may_end_any_call}
 use Rattle.tuner.specs.SearchEnds.{IsSearched, RanTo, IsTrajectoryOf, IsStoppedSearch}
 use Rattle.tuner.specs.Tasks.{IsProcedureOf, true_run, quiet_run}
-use Rattle.tuner.specs.declared.status.Status.{Status}
-use Rattle.tuner.specs.declared.status.Status.TheVariants as status
-use Rattle.tuner.specs.declared.task.Task.{Task}
+use Rattle.tune_front.specs.declared.status.Status.{Status}
+use Rattle.tune_front.specs.declared.status.Status.TheVariants as status
+use Rattle.tune_front.specs.declared.task.Task.{Task}
 
 -- there was no memory
 pub without_memory : (call : Call) (out out' : SinkTold) (result : Status) → Said out out' status.NoMemory result no_memory_line → Conducted call out out' result
@@ -54,12 +55,12 @@ reported call out out' result end text cause starts wanted (not_made said) = wit
 -- a text is said with the answer that it is for, or one that any call may have
 said_as : (out out' : SinkTold) (end result : Status) (text : List ℕ) → Said out out' end result text → EndsAs end result
 said_as out out' end result text (whole is took) = inl is
-said_as out out' end result text (unwritten is part badly) = inr (ap is_unsaid is)
-said_as out out' end result text (no_memory is part) = inr (ap is_unsaid is)
+said_as out out' end result text (unwritten is part badly) = inr (ap may_end_any_call is)
+said_as out out' end result text (no_memory is part) = inr (ap may_end_any_call is)
 
 -- where that is one that any call may have, so is the answer
-unsaid_as : (end result : Status) → is_unsaid end ≡ true → EndsAs end result → is_unsaid result ≡ true
-unsaid_as end result unsaid (inl is) = ap is_unsaid is ∙ unsaid
+unsaid_as : (end result : Status) → may_end_any_call end ≡ true → EndsAs end result → may_end_any_call result ≡ true
+unsaid_as end result unsaid (inl is) = ap may_end_any_call is ∙ unsaid
 unsaid_as end result unsaid (inr is) = is
 
 -- so is a text that was to be made
@@ -69,7 +70,7 @@ reported_as out out' result end text (not_made said) =
     inr (unsaid_as status.NoMemory result refl (said_as out out' status.NoMemory result no_memory_line said))
 
 -- want of memory is said with an answer that any call may have
-pub reported_unsaid : (out out' : SinkTold) (result : Status) (text : List ℕ) → Reported out out' result status.NoMemory text → is_unsaid result ≡ true
+pub reported_unsaid : (out out' : SinkTold) (result : Status) (text : List ℕ) → Reported out out' result status.NoMemory text → may_end_any_call result ≡ true
 reported_unsaid out out' result text h = unsaid_as status.NoMemory result refl (reported_as out out' result status.NoMemory text h)
 
 -- ---- what is shown, by the uncapped procedure

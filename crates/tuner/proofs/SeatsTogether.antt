@@ -1,25 +1,22 @@
 -- What seats that worked beside each other come to, seat by seat.
 use Rattle.std.proofs.Common.{arith, ℕ, zero, suc, ◌≡◌, ◌<◌, ◌≤◌, ◌++◌, ◌||◌, Bool, true, false, List, [], ◌∷◌, length, get_or, set, take, nat_lt, Option, Some, None, refl, sym, ap, subst, ◌∙◌, if◌then◌else◌}
-use Rattle.std.specs.Prelude.{IfSome, IsSomeAnd, slice_get}
+use Rattle.std.specs.Prelude.{slice_get}
 use Rattle.std.specs.List.{AllZip}
 use Rattle.std.proofs.lemmas.Bool.{ltb-false}
-use Rattle.std.proofs.lemmas.List.Elements.{All-head, All-tail}
 use Rattle.objective.specs.declared.Outcome.{Outcome}
 use Rattle.wrapper_lines.specs.declared.runs.Key.{Key}
 use Rattle.outside.specs.ToldStates.{SpawnerTold}
 use Rattle.board_steps.specs.Boards.{BoardState, PlainBoard, plain_board}
 use Rattle.board_steps.specs.declared.tickets.LiveTicket.{LiveTicket}
-use Rattle.board_steps.specs.declared.tickets.Ticket.{Ticket}
-use Rattle.board_steps.specs.Problem.{Problem}
 use Rattle.board_steps.specs.Steps.{after_resume, resumed_board}
-use Rattle.pool_run.specs.Seats.{SeatState, IsFault, fault_of}
+use Rattle.pool_run.specs.Seats.{SeatState}
 use Rattle.tuner.specs.Calls.{Call}
 use Rattle.tuner.specs.CallStarts.{StartsOf}
 use Rattle.tuner.specs.Conducted.{IsAbout, Runs}
-use Rattle.tuner.specs.ReadyToDrive.{DrivesOn, HasSeat, IsFree, KeepsFault}
-use Rattle.tuner.specs.SeatsTogether.{AreSeatsOf, HasWorkedOn, IsFirst, IsTakenIn, KeepsTaken, RunsOn, RunsWorked}
-use Rattle.tuner.specs.declared.status.Status.TheVariants as status
-use Rattle.tuner.specs.declared.task.Task.{Task}
+use Rattle.tuner.specs.ReadyToDrive.{DrivesOn, HasSeat, IsFree}
+use Rattle.tuner.specs.SeatsTogether.{AreSeatsOf, HasWorkedOn, RunsOn, RunsWorked}
+use Rattle.tune_front.specs.declared.status.Status.TheVariants as status
+use Rattle.tune_front.specs.declared.task.Task.{Task}
 
 -- ---- two lists, place by place
 
@@ -38,12 +35,12 @@ one_or x None = x
 one_or x (Some y) = y
 
 -- an element of the first list that stands where this one does in the second
-record Beside {X : Type 0} (R : X → X → Type 0) (xs : List X) (k : ℕ) (y : X) : Type 0 where
+pub record Beside {X : Type 0} (R : X → X → Type 0) (xs : List X) (k : ℕ) (y : X) : Type 0 where
   pub one : X
   pub was : slice_get xs k ≡ Some one
   pub holds : R one y
 
-beside : {X : Type 0} (R : X → X → Type 0) (xs ys : List X) → AllZip R xs ys → (k : ℕ) (y : X) → slice_get ys k ≡ Some y → Beside R xs k y
+pub beside : {X : Type 0} (R : X → X → Type 0) (xs ys : List X) → AllZip R xs ys → (k : ℕ) (y : X) → slice_get ys k ≡ Some y → Beside R xs k y
 unfolding one_or
 beside R [] [] all k y is = absurd (cc)
 beside R [] (z ∷ ys) all k y is = absurd all
@@ -52,59 +49,12 @@ beside R (x ∷ xs) (z ∷ ys) all zero y is = record { one = x; was = refl; hol
 beside R (x ∷ xs) (z ∷ ys) all (suc k) y is = let b = beside R xs ys all.1 k y is in record { one = b.one; was = b.was; holds = b.holds }
 
 -- an element stands within its list
-within : {X : Type 0} (xs : List X) (k : ℕ) (x : X) → slice_get xs k ≡ Some x → k < length xs
+pub within : {X : Type 0} (xs : List X) (k : ℕ) (x : X) → slice_get xs k ≡ Some x → k < length xs
 within [] k x is = absurd (cc)
 within (y ∷ xs) zero x is = omega arith
 within (y ∷ xs) (suc k) x is = omega (arith, within xs k x is)
 
--- what holds of an element holds of the one at its place
-pub some_at : {X : Type 0} (xs : List X) (k : ℕ) (x : X) (P : X → Type 0) → k < length xs → x ≡ get_or xs k x → P x → IsSomeAnd (slice_get xs k) P
-some_at [] k x P h is holds = absurd (omega (arith, h))
-some_at (z ∷ xs) zero x P h is holds = subst P is holds
-some_at (z ∷ xs) (suc k) x P h is holds = some_at xs k x P (omega (arith, h)) is holds
-
--- the element at a place that there is
-get_at : {X : Type 0} (xs : List X) (k : ℕ) (x : X) (P : X → Type 0) → IsSomeAnd (slice_get xs k) P → x ≡ get_or xs k x → slice_get xs k ≡ Some x
-get_at [] k x P there is = absurd there
-get_at (z ∷ xs) zero x P there is = ap Some (sym is)
-get_at (z ∷ xs) (suc k) x P there is = get_at xs k x P there is
-
 -- ---- the seats of a call
-
--- a seat of a call keeps a ticket whose run failed
-keeps : (call : Call) (task : Task) (truth : Option (Key → Outcome)) (seats after : List SeatState) (k : ℕ) (s : SeatState) (t : Ticket)
-    → RunsWorked call task truth seats after → AreSeatsOf task seats → slice_get seats k ≡ Some s → slice_get after k ≡ Some s → fault_of s ≡ Some t
-    → KeepsFault call task k t
-keeps call task truth seats after k s t h sized is stays kept =
-    let b = beside HasWorkedOn h.before seats h.worked k s is in
-    let F : Option Ticket → Type 0 = λ o. IfSome o (IsFault b.one.told s.told) in
-    let all = sized.all in
-    record {
-      one = omega (arith, within seats k s is, all);
-      before = b.one;
-      after = s;
-      seat = record { was = h.on.has.was k b.one b.was; is = h.on.has.is k s stays };
-      kept = kept;
-      fault = subst F kept b.holds.fault;
-    }
-
--- the seat at a place keeps one
-pub keeps_at : (call : Call) (task : Task) (truth : Option (Key → Outcome)) (seats : List SeatState) (k : ℕ) (s : SeatState) (t : Ticket)
-    (P : SeatState → Type 0) → RunsWorked call task truth seats seats → AreSeatsOf task seats → IsSomeAnd (slice_get seats k) P
-    → s ≡ get_or seats k s → fault_of s ≡ Some t → KeepsFault call task k t
-keeps_at call task truth seats k s t P h sized there is kept =
-    let stands = get_at seats k s P there is in
-    keeps call task truth seats seats k s t h sized stands stands kept
-
--- the board gave the ticket that the seat at a place keeps
-pub taken_at : (b : BoardState) (problem : Problem) (seats : List SeatState) (k : ℕ) (s : SeatState) (t : Ticket) → b.problem ≡ problem
-    → IsSomeAnd (slice_get seats k) (KeepsTaken b) → s ≡ get_or seats k s → fault_of s ≡ Some t → IsTakenIn problem b.journal t
-taken_at b problem seats k s t same there is kept =
-    let F : Option SeatState → Type 0 = λ o. IsSomeAnd o (KeepsTaken b) in
-    let G : Option Ticket → Type 0 = λ o. IsSomeAnd o (IsTakenIn b.problem b.journal) in
-    let here : KeepsTaken b s = subst F (get_at seats k s (KeepsTaken b) there is) there in
-    let taken : IsTakenIn b.problem b.journal t = subst G kept here in
-    subst (λ (p : Problem). IsTakenIn p b.journal t) same taken
 
 -- of the starts of several seats nothing is promised
 pub starts_together : (call : Call) (task : Task) (truth : Option (Key → Outcome)) (seats : List SeatState)
@@ -222,21 +172,3 @@ resumed b b' e = let P : PlainBoard → Type 0 = λ c. IsResumed (plain_board b)
 pub goes_on : (b b' : BoardState) → IsResumed (plain_board b) (plain_board b') → (b'.problem ≡ b.problem) × IsFree b'
 unfolding plain_board
 goes_on b b' is = (is.problem, record { free = is.free; going = is.going })
-
--- ---- the first of a list
-
--- there is one first at most
-pub first_once : {X : Type 0} (P : X → Type 0) (xs : List X) (j k : ℕ) → IsFirst P xs (Some j) → IsFirst P xs (Some k) → j ≡ k
-first_once P [] j k one other = absurd one.0
-first_once P (x ∷ xs) zero zero one other = refl
-first_once P (x ∷ xs) zero (suc k) one other = absurd (All-head (λ y. ¬ P y) x (take k xs) other.1 one.0)
-first_once P (x ∷ xs) (suc j) zero one other = absurd (All-head (λ y. ¬ P y) x (take j xs) one.1 other.0)
-first_once P (x ∷ xs) (suc j) (suc k) one other =
-    ap suc (first_once P xs j k (one.0, All-tail (λ y. ¬ P y) x (take j xs) one.1) (other.0, All-tail (λ y. ¬ P y) x (take k xs) other.1))
-
--- where there is none, none is the first
-pub first_none : {X : Type 0} (P : X → Type 0) (xs : List X) (k : ℕ) → IsFirst P xs None → IsFirst P xs (Some k) → ⊥
-first_none P [] k none one = one.0
-first_none P (x ∷ xs) zero none one = All-head (λ y. ¬ P y) x xs none one.0
-first_none P (x ∷ xs) (suc k) none one =
-    first_none P xs k (All-tail (λ y. ¬ P y) x xs none) (one.0, All-tail (λ y. ¬ P y) x (take k xs) one.1)

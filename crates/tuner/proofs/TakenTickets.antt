@@ -17,7 +17,7 @@ use Rattle.board_steps.specs.Tickets.{same_ticket}
 use Rattle.board_steps.proofs.SameItself.{same_ticket-itself}
 use Rattle.board_steps.proofs.SameTickets.{same_ticket-equal}
 use Rattle.pool_run.specs.Drives.{IsAskedTicket}
-use Rattle.tuner.specs.SeatsTogether.{IsTakeOf, IsTakenIn}
+use Rattle.tuner.specs.KeptFaults.{IsTakeOf, IsTakenIn}
 
 -- an event is of the ticket that is the same as the one made from it
 taken_by : (problem : Problem) (event : Event) (own t : Ticket) (cell : Cell) → event ≡ Take own.number own.kind cell own.run.cutoff own.place

@@ -1,4 +1,4 @@
--- The cell whose run aborts, and the ask that comes to it.
+-- Why Aborted is answered: a cell whose run aborts, and an ask that comes to it.
 use Rattle.std.specs.Prelude.{◌≡◌, ◌≤◌, Option, IsSome, IsSomeAnd}
 use Rattle.objective.specs.Bounds.{Bounds}
 use Rattle.objective.specs.Costs.{Table}
@@ -23,8 +23,9 @@ pub record AbortsAt (limits : Bounds) (T : Table) (cell : Cell) (question : Ques
   pub place : cell.place ≤ question.places
   pub first : IsFirstAbort limits T cell.place question
 
--- where a truth is told, the run of the problem's cell is the first one of this question that aborts
-pub record IsAbort (problem : Problem) (truth : Option (Key → Outcome)) (question : Option Question) (cell : Cell)
+-- this cell of the problem is why Aborted is answered: where a truth is told, its run is the first one of this question that
+-- aborts
+pub record IsAbortCause (problem : Problem) (truth : Option (Key → Outcome)) (question : Option Question) (cell : Cell)
     : Type 0 where
   pub in_problem : IsCell problem cell
   pub aborts : IsSome truth → IsSomeAnd question (AbortsAt problem.rules.limits (table_of truth problem) cell)

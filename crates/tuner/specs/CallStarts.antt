@@ -10,9 +10,9 @@ use Rattle.pool_run.specs.Seats.{SeatState}
 use Rattle.pool_run.specs.Starts.{HasStarted}
 use Rattle.tuner.specs.Calls.{Call, StatesTask}
 use Rattle.tuner.specs.Tasks.{asks_over}
-use Rattle.tuner.specs.declared.status.Status.{Status}
-use Rattle.tuner.specs.declared.status.Status.TheVariants as status
-use Rattle.tuner.specs.declared.task.Task.{Task}
+use Rattle.tune_front.specs.declared.status.Status.{Status}
+use Rattle.tune_front.specs.declared.status.Status.TheVariants as status
+use Rattle.tune_front.specs.declared.task.Task.{Task}
 
 -- a seat took tickets that a task's asks needed, and started the run of each in order: rising runs; where a truth is told, it
 -- shows their answers, and each is due at the ask with its ticket's place, the places never falling

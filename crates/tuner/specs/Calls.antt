@@ -1,13 +1,13 @@
 -- What the top call is given, and what is told of it.
-use Rattle.std.specs.Prelude.{ℕ, ◌≡◌, ◌≤◌, List, Option, Ok, Err, IfSome}
+use Rattle.std.specs.Prelude.{ℕ, ◌≡◌, ◌≤◌, List, Option, Ok, Err}
 use Rattle.objective.specs.declared.Outcome.{Outcome}
 use Rattle.wrapper_lines.specs.declared.runs.Key.{Key}
 use Rattle.outside.specs.ToldStates.{FilesTold}
 use Rattle.scenario_files.specs.Words.{words_read}
 use Rattle.scenario_files.specs.declared.call.Words.{Words}
 use Rattle.pool_run.specs.Seats.{SeatState}
-use Rattle.tuner.specs.Readings.{Reads, problem_of}
-use Rattle.tuner.specs.declared.task.Task.{Task}
+use Rattle.tune_front.specs.Readings.{Gives, task_of}
+use Rattle.tune_front.specs.declared.task.Task.{Task}
 
 -- what a call is given, with what its files tell and what its seats hold before and after it
 pub record Call : Type 0 where
@@ -35,7 +35,7 @@ pub record IsCalled (words : List (List ℕ)) : Type 0 where
 -- the words and the files, where these are told, state this task
 pub record StatesTask (words : List (List ℕ)) (files : FilesTold) (task : Task) : Type 0 where
   pub called : IsCalled words
-  pub reads : IfSome files.contents (λ contents. problem_of words contents ≡ Reads task)
+  pub reads : Gives (task_of words) files task
 
 -- so many seats are as many as the task asks for
 abbrev pub IsSeated : ℕ → Task → Type 0

@@ -10,16 +10,16 @@ use Rattle.run_cache.specs.declared.cell.Cell.{Cell}
 use Rattle.board_steps.specs.ProblemRuns.{table_of}
 use Rattle.board_steps.specs.declared.tickets.Ticket.{Ticket}
 use Rattle.pool_run.specs.Seats.{SeatState}
-use Rattle.tuner.specs.AbortCauses.{IsAbort}
+use Rattle.tuner.specs.AbortCauses.{IsAbortCause}
 use Rattle.tuner.specs.Calls.{Call, call_of, IsMisused, IsCalled, StatesTask, IsSeated}
 use Rattle.tuner.specs.KeptFaults.{HasFault}
-use Rattle.tuner.specs.Readings.{Reads, Bad, problem_of, file_name}
+use Rattle.tune_front.specs.Readings.{Bad, Gives, task_of, file_name}
 use Rattle.tuner.specs.Tasks.{true_run, ask_over}
-use Rattle.tuner.specs.declared.status.FileKind.{FileKind}
-use Rattle.tuner.specs.declared.status.What.{What}
-use Rattle.tuner.specs.declared.status.Status.{Status}
-use Rattle.tuner.specs.declared.status.Status.TheVariants as status
-use Rattle.tuner.specs.declared.task.Task.{Task}
+use Rattle.tune_front.specs.declared.status.FileKind.{FileKind}
+use Rattle.tune_front.specs.declared.status.What.{What}
+use Rattle.tune_front.specs.declared.status.Status.{Status}
+use Rattle.tune_front.specs.declared.status.Status.TheVariants as status
+use Rattle.tune_front.specs.declared.task.Task.{Task}
 
 -- words and files state this task, and there are as many seats as it asks for
 pub record IsRun (call : Call) (task : Task) : Type 0 where
@@ -37,13 +37,13 @@ pub record IsFinished (call : Call) : Type 0 where
 pub record IsBadFile (call : Call) (kind : FileKind) (line : ℕ) (what : What) : Type 0 where
   pub name : List ℕ
   pub called : IsCalled call.words
-  pub first : IfSome call.files.contents (λ contents. problem_of call.words contents ≡ Bad kind name line what)
+  pub first : IfSome call.files.contents (λ contents. task_of call.words contents ≡ Bad kind name line what)
 
 -- the cause of ReadFault: the count rose, and the files before this one have a reading
 pub record IsUnread (call : Call) (kind : FileKind) : Type 0 where
   pub name : List ℕ
   pub called : IsCalled call.words
-  pub next : IfSome call.files.contents (λ contents. file_name call.words contents kind ≡ Reads name)
+  pub next : Gives (λ contents. file_name call.words contents kind) call.files name
   pub rose : Rose call.files.faults call.files'.faults
 
 -- the cause of TooFewSeats: words and files state a task that asks for more seats than there are
@@ -60,7 +60,7 @@ pub record IsAborted (call : Call) (cell : Cell) : Type 0 where
   pub task : Task
   pub run : IsRun call task
   pub number : ℕ  -- of the ask
-  pub abort : IsAbort task.problem call.truth (ask_over call.truth task number) cell
+  pub abort : IsAbortCause task.problem call.truth (ask_over call.truth task number) cell
   pub ended : IsSome call.truth → (true_run call.truth task).end ≡ Aborted
 
 -- the cause of ChildFault: one of the seats that the task asks for keeps a ticket that was asked for, whose run is the one that

@@ -7,9 +7,10 @@ use Rattle.pool_run.specs.Seats.{SeatState}
 use Rattle.tuner.specs.CallStarts.{StartsOf}
 use Rattle.tuner.specs.Calls.{Call, StatesTask}
 use Rattle.tuner.specs.Causes.{CauseOf, IsRun}
-use Rattle.tuner.specs.PrintedTexts.{IsTextOf, Said}
-use Rattle.tuner.specs.declared.status.Status.{Status}
-use Rattle.tuner.specs.declared.task.Task.{Task}
+use Rattle.tune_front.specs.SaidTexts.{Said}
+use Rattle.tuner.specs.PrintedTexts.{IsTextOf}
+use Rattle.tune_front.specs.declared.status.Status.{Status}
+use Rattle.tune_front.specs.declared.task.Task.{Task}
 
 -- how a call was to end, why, what it had started and was to print then, and what came of it
 pub record Conducted (call : Call) (out out' : SinkTold) (result : Status) : Type 0 where

@@ -1,12 +1,10 @@
--- The lines that are printed.
+-- The lines of the incumbents, of an end and of a run.
 use Rattle.std.specs.Prelude.{ℕ, List, ◌++◌, map, codes}
 use Rattle.std.specs.List.{flat_map}
 use Rattle.std.specs.Fmt.{decimal}
 use Rattle.plain_text.specs.Decimals.{seconds}
 use Rattle.param_space.specs.Space.{Lists}
 use Rattle.param_space.specs.Settings.{active_values, settings_text}
-use Rattle.tuner.specs.RuleNames.{rule_name}
-use Rattle.tuner.specs.declared.status.What.{What}
 use Rattle.uncapped.specs.Procedure.{Incumbent}
 use Rattle.uncapped.specs.Uncapped.{Run}
 
@@ -39,22 +37,6 @@ all_lines space entries last = lines_with space entries (end_line space last)
 -- all that a run of the procedure prints
 abbrev pub output_of : Lists → Run → List ℕ
 output_of space run = all_lines space (map (λ added. added.entry) run.entries) run.last
-
-abbrev pub no_memory_line : List ℕ
-no_memory_line = codes "nomemory\n"
-
-abbrev pub usage_line : ℕ → List ℕ
-usage_line place = codes "usage " ++ (decimal place ++ codes "\n")
-
-abbrev pub read_fault_line : List ℕ → List ℕ
-read_fault_line name = codes "readfault " ++ (name ++ codes "\n")
-
-abbrev pub seats_line : ℕ → ℕ → List ℕ
-seats_line asked given = codes "seats " ++ (decimal asked ++ (codes " " ++ (decimal given ++ codes "\n")))
-
--- the file, the line and the rule that it breaks
-abbrev pub bad_file_line : List ℕ → ℕ → What → List ℕ
-bad_file_line name line what = codes "badfile " ++ (name ++ (codes " " ++ (decimal line ++ (codes " " ++ (rule_name what ++ codes "\n")))))
 
 -- a word, and the place and the settings of a run
 abbrev pub run_line : List ℕ → Lists → ℕ → List ℕ → List ℕ

@@ -3,24 +3,25 @@ use Rattle.std.specs.Prelude.{ℕ, ◌≡◌, List, Option, IfSome, IsSome}
 use Rattle.objective.specs.declared.Outcome.{Outcome}
 use Rattle.wrapper_lines.specs.declared.runs.Key.{Key}
 use Rattle.outside.specs.ToldStates.{FilesTold, SinkTold}
-use Rattle.outside.specs.WholePieces.{Took, TookPartOf, WroteBadly}
 use Rattle.uncapped.specs.Procedure.{Incumbent}
 use Rattle.ils_face.specs.Replies.{entries_before}
 use Rattle.ils_face.specs.Steady.{Grows}
 use Rattle.run_cache.specs.declared.cell.Cell.{Cell}
 use Rattle.board_steps.specs.declared.tickets.Ticket.{Ticket}
 use Rattle.pool_run.specs.Seats.{SeatState}
+use Rattle.tune_front.specs.SaidTexts.{Said}
 use Rattle.tuner.specs.Calls.{StatesTask}
 use Rattle.tuner.specs.KeptFaults.{IsKeptBy}
-use Rattle.tuner.specs.Lines.{lines_with, all_lines, aborted_line, no_memory_line, usage_line, bad_file_line, read_fault_line, seats_line, child_fault_line}
-use Rattle.tuner.specs.Readings.{Reads, Bad, problem_of, file_name}
+use Rattle.tune_front.specs.RefusalLines.{no_memory_line, usage_line, bad_file_line, read_fault_line, seats_line}
+use Rattle.tuner.specs.Lines.{lines_with, all_lines, aborted_line, child_fault_line}
+use Rattle.tune_front.specs.Readings.{Bad, Gives, task_of, file_name}
 use Rattle.tuner.specs.SearchEnds.{IsTrajectoryOf, IsStoppedSearch, AreFirst}
 use Rattle.tuner.specs.Tasks.{quiet_run}
-use Rattle.tuner.specs.declared.status.FileKind.{FileKind}
-use Rattle.tuner.specs.declared.status.What.{What}
-use Rattle.tuner.specs.declared.status.Status.{Status}
-use Rattle.tuner.specs.declared.status.Status.TheVariants as status
-use Rattle.tuner.specs.declared.task.Task.{Task}
+use Rattle.tune_front.specs.declared.status.FileKind.{FileKind}
+use Rattle.tune_front.specs.declared.status.What.{What}
+use Rattle.tune_front.specs.declared.status.Status.{Status}
+use Rattle.tune_front.specs.declared.status.Status.TheVariants as status
+use Rattle.tune_front.specs.declared.task.Task.{Task}
 
 -- the entries and the last line of a search that made all comparisons
 pub record IsSearchText (words : List (List ℕ)) (files : FilesTold) (truth : Option (Key → Outcome)) (text : List ℕ) : Type 0 where
@@ -34,13 +35,13 @@ pub record IsSearchText (words : List (List ℕ)) (files : FilesTold) (truth : O
 -- the line of the file's first fault
 pub record IsBadFileText (words : List (List ℕ)) (files : FilesTold) (kind : FileKind) (line : ℕ) (what : What) (text : List ℕ) : Type 0 where
   pub name : List ℕ
-  pub first : IfSome files.contents (λ contents. problem_of words contents ≡ Bad kind name line what)
+  pub first : IfSome files.contents (λ contents. task_of words contents ≡ Bad kind name line what)
   pub same : text ≡ bad_file_line name line what
 
 -- the line of the file that is to be read next
 pub record IsReadFaultText (words : List (List ℕ)) (files : FilesTold) (kind : FileKind) (text : List ℕ) : Type 0 where
   pub name : List ℕ
-  pub next : IfSome files.contents (λ contents. file_name words contents kind ≡ Reads name)
+  pub next : Gives (λ contents. file_name words contents kind) files name
   pub same : text ≡ read_fault_line name
 
 -- the entries of a search that a child aborts, and then the place and the settings of its run
@@ -82,19 +83,8 @@ IsTextOf words files truth seats (status.ChildFault seat) text = IsChildFaultTex
 IsTextOf words files truth seats status.NoMemory text = IsNoMemoryText words files truth text
 IsTextOf words files truth seats (status.TooFewSeats asked given) text = text ≡ seats_line asked given
 
--- the text was written whole and nothing else, or a first part of it with the status that says why
-pub data Said (out out' : SinkTold) (end result : Status) (text : List ℕ) : Type 0 where
-  whole : result ≡ end → Took out out' text → Said out out' end result text
-  unwritten : result ≡ status.WriteFault → TookPartOf out out' text → WroteBadly out out' → Said out out' end result text
-  no_memory : result ≡ status.NoMemory → TookPartOf out out' text → Said out out' end result text
-
--- a call that is to end with a text says it, or that there is no memory
-pub data Reported (out out' : SinkTold) (result end : Status) (text : List ℕ) : Type 0 where
-  made : Said out out' end result text → Reported out out' result end text
-  not_made : Said out out' status.NoMemory result no_memory_line → Reported out out' result end text
-
 -- how the call was to end, what it was to print then, and what came of it
-pub record Ending (words : List (List ℕ)) (files : FilesTold) (truth : Option (Key → Outcome)) (seats : List SeatState) (out out' : SinkTold) (result : Status) : Type 0 where
+pub record Printed (words : List (List ℕ)) (files : FilesTold) (truth : Option (Key → Outcome)) (seats : List SeatState) (out out' : SinkTold) (result : Status) : Type 0 where
   pub end : Status
   pub text : List ℕ
   pub wanted : IsTextOf words files truth seats end text

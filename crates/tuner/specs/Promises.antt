@@ -12,17 +12,18 @@ use Rattle.ils_face.specs.Steady.{Grows}
 use Rattle.run_cache.specs.declared.cell.Cell.{Cell}
 use Rattle.board_steps.specs.ProblemRuns.{table_of}
 use Rattle.pool_run.specs.Seats.{SeatState}
+use Rattle.tuner.specs.AnyAnswers.{EndsAs, may_end_any_call_that_reads}
 use Rattle.tuner.specs.CallStarts.{StartsDue}
 use Rattle.tuner.specs.Calls.{call_of, IsMisused, StatesTask, IsSeated}
 use Rattle.tuner.specs.Lines.{lines_with, all_lines, output_of, aborted_line}
-use Rattle.tuner.specs.Readings.{Reads, Bad, problem_of}
+use Rattle.tune_front.specs.Readings.{Reads, Bad, task_of}
 use Rattle.tuner.specs.SearchEnds.{IsSearched, AreFirst}
 use Rattle.tuner.specs.Tasks.{true_run, quiet_run}
-use Rattle.tuner.specs.declared.status.FileKind.{FileKind}
-use Rattle.tuner.specs.declared.status.What.{What}
-use Rattle.tuner.specs.declared.status.Status.{Status}
-use Rattle.tuner.specs.declared.status.Status.TheVariants as status
-use Rattle.tuner.specs.declared.task.Task.{Task}
+use Rattle.tune_front.specs.declared.status.FileKind.{FileKind}
+use Rattle.tune_front.specs.declared.status.What.{What}
+use Rattle.tune_front.specs.declared.status.Status.{Status}
+use Rattle.tune_front.specs.declared.status.Status.TheVariants as status
+use Rattle.tune_front.specs.declared.task.Task.{Task}
 
 -- ---- the headline
 
@@ -96,34 +97,6 @@ pub data PrintsFirst (words : List (List ℕ)) (files : FilesTold) (truth : Opti
 
 -- ---- refusals
 
--- an answer that any call may have: want of memory, or a failed write
-abbrev pub is_unsaid : Status → Bool
-is_unsaid status.NoMemory = true
-is_unsaid status.WriteFault = true
-is_unsaid status.Ok = false
-is_unsaid (status.Usage place) = false
-is_unsaid (status.BadFile kind line what) = false
-is_unsaid (status.ReadFault kind) = false
-is_unsaid (status.Aborted cell) = false
-is_unsaid (status.ChildFault seat) = false
-is_unsaid (status.TooFewSeats asked given) = false
-
--- a call that is to end so ends so, or for want of memory or a failed write
-abbrev pub EndsAs : Status → Status → Type 0
-EndsAs end result = (result ≡ end) ⊎ IsTrue (is_unsaid result)
-
--- an answer that any call that reads files may have: one of these, or a failed read
-abbrev pub yields : Status → Bool
-yields (status.ReadFault kind) = true
-yields status.NoMemory = true
-yields status.WriteFault = true
-yields status.Ok = false
-yields (status.Usage place) = false
-yields (status.BadFile kind line what) = false
-yields (status.Aborted cell) = false
-yields (status.ChildFault seat) = false
-yields (status.TooFewSeats asked given) = false
-
 -- a wrong key word gives Usage, whatever the files are, where nothing else comes in between
 abbrev pub RefusesMisused : List (List ℕ) → Status → Type 0
 RefusesMisused words result = (place : ℕ) → IsMisused words place → EndsAs (status.Usage place) result
@@ -131,13 +104,13 @@ RefusesMisused words result = (place : ℕ) → IsMisused words place → EndsAs
 -- a file with a fault gives BadFile, where nothing else comes in between
 pub record RefusesFaulty (words : List (List ℕ)) (files : FilesTold) (result : Status) : Type 0 where
   pub refuses : (contents : List ℕ → Option (List ℕ)) (kind : FileKind) (name : List ℕ) (line : ℕ) (what : What) → files.contents ≡ Some contents
-      → problem_of words contents ≡ Bad kind name line what → (result ≡ status.BadFile kind line what) ⊎ IsTrue (yields result)
+      → task_of words contents ≡ Bad kind name line what → (result ≡ status.BadFile kind line what) ⊎ IsTrue (may_end_any_call_that_reads result)
 
 -- a task that asks for more seats than these gives TooFewSeats, where nothing else comes in between
 pub record RefusesUnseated (words : List (List ℕ)) (files : FilesTold) (seats : ℕ) (result : Status) : Type 0 where
   pub refuses : (contents : List ℕ → Option (List ℕ)) (task : Task) → files.contents ≡ Some contents
-      → problem_of words contents ≡ Reads task → seats < task.problem.rules.workers
-      → (result ≡ status.TooFewSeats task.problem.rules.workers seats) ⊎ IsTrue (yields result)
+      → task_of words contents ≡ Reads task → seats < task.problem.rules.workers
+      → (result ≡ status.TooFewSeats task.problem.rules.workers seats) ⊎ IsTrue (may_end_any_call_that_reads result)
 
 -- ---- completeness
 
@@ -151,7 +124,7 @@ NoSeatFails seats seats' = (k : ℕ) (before after : SeatState) → slice_get se
 pub record IsComplete (words : List (List ℕ)) (files files' : FilesTold) (truth : Option (Key → Outcome))
     (seats seats' : List SeatState) (result : Status) : Type 0 where
   pub complete : (contents : List ℕ → Option (List ℕ)) (task : Task)
-      → files.contents ≡ Some contents → problem_of words contents ≡ Reads task → IsSeated (length seats) task
+      → files.contents ≡ Some contents → task_of words contents ≡ Reads task → IsSeated (length seats) task
       → IsSome truth → NeverAborts task.problem.rules.limits (table_of truth task.problem)
       → ¬ Rose files.faults files'.faults → NoSeatFails seats seats'
       → EndsAs status.Ok result

@@ -11,7 +11,7 @@ use Rattle.pool_run.specs.Seats.{SeatState, IsFault, fault_of}
 use Rattle.tuner.specs.Calls.{Call}
 use Rattle.tuner.specs.Conducted.{Runs}
 use Rattle.tuner.specs.Tasks.{IsProcedureOf}
-use Rattle.tuner.specs.declared.task.Task.{Task}
+use Rattle.tune_front.specs.declared.task.Task.{Task}
 
 -- a board of this task: its problem is the task's, and its search's procedure is that of the task's approach
 pub record IsBoardOf (task : Task) (plain : Rules → Table → Run) (b : BoardState) : Type 0 where

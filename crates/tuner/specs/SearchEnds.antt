@@ -10,7 +10,7 @@ use Rattle.ils_face.specs.Rules.{Rules}
 use Rattle.ils_face.specs.Steady.{Grows}
 use Rattle.ils_face.specs.Trajectories.{IsTrajectory, newest}
 use Rattle.tuner.specs.Tasks.{true_run, quiet_run}
-use Rattle.tuner.specs.declared.task.Task.{Task}
+use Rattle.tune_front.specs.declared.task.Task.{Task}
 
 -- entries and a last line of a search under these rules that made all comparisons
 pub record IsSearched (rules : Rules) (entries : List Incumbent) (last : Incumbent) : Type 0 where

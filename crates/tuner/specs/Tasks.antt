@@ -12,7 +12,7 @@ use Rattle.ils_face.specs.Follows.{sums_under}
 use Rattle.ils_face.specs.Rules.{Rules}
 use Rattle.ils_face.specs.Setups.{setup_of}
 use Rattle.board_steps.specs.ProblemRuns.{table_of}
-use Rattle.tuner.specs.declared.task.Task.{Task}
+use Rattle.tune_front.specs.declared.task.Task.{Task}
 
 -- the procedure of an approach
 abbrev pub procedure_of : Approach → Uncapped.Approach

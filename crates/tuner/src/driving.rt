@@ -6,9 +6,6 @@ ghost use Rattle.tuner.specs.ReadyToDrive.{DrivesOn, IsBoardOf, IsFree};
 ghost use Rattle.tuner.specs.Tasks.{IsProcedureOf};
 
 use crate::finishing::{report_ending, report_fault, report_no_memory};
-use crate::saying::say_no_memory;
-use crate::status::Status;
-use crate::task::Task;
 use board_steps::Problem;
 use ils_face::Search;
 use objective::Memory;
@@ -17,6 +14,7 @@ use pool_core::Board;
 use pool_run::{Driven, Seat, drive};
 use std::alloc::Global;
 use std::sync::Wait;
+use tune_front::{Status, Task, say_no_memory};
 
 /// The opening board of a problem.
 pub(crate) fn open_board<P: Search, S: Spawner>(

@@ -5,18 +5,16 @@ ghost use Rattle.ils_face.specs.Steady.{IsAsk};
 ghost use Rattle.pool_run.specs.Drives.{is_over};
 ghost use Rattle.tuner.specs.Calls.{Call};
 ghost use Rattle.tuner.specs.CallStarts.{StartsOf};
+ghost use Rattle.tune_front.specs.RefusalLines;
 ghost use Rattle.tuner.specs.Lines;
-ghost use Rattle.tuner.specs.PrintedTexts.{Reported};
+ghost use Rattle.tune_front.specs.SaidTexts.{Reported};
 ghost use Rattle.tuner.specs.Conducted.{Conducted, Runs};
-ghost use Rattle.tuner.specs.Promises.{EndsAs, is_unsaid};
+ghost use Rattle.tuner.specs.AnyAnswers.{EndsAs, may_end_any_call};
 ghost use Rattle.tuner.specs.ReadyToDrive.{IsBoardOf, KeepsFault};
 ghost use Rattle.tuner.specs.SearchEnds.{IsSearched};
-ghost use Rattle.tuner.specs.SeatsTogether.{IsTakenIn};
+ghost use Rattle.tuner.specs.KeptFaults.{IsTakenIn};
 
-use crate::lines::{end_line, lines_with, no_memory_line, run_line};
-use crate::saying::{say_all, say_no_memory};
-use crate::status::Status;
-use crate::task::Task;
+use crate::lines::{end_line, lines_with, run_line};
 use board_steps::{Problem, Ticket};
 use ils_face::{Ask, Search};
 use objective::Memory;
@@ -24,6 +22,7 @@ use outside::{Sink, Spawner};
 use pool_core::{Board, Ending};
 use run_cache::Cell;
 use std::alloc::Global;
+use tune_front::{Status, Task, no_memory_line, say_all, say_no_memory};
 
 /// Prints the incumbents of a search so far, and then this line of a call that is to end so.
 fn report<P: Search, O: Sink>(
@@ -37,7 +36,8 @@ fn report<P: Search, O: Sink>(
     requires { P.rules_of search.now ≡ problem.now.rules }
     ensures { let entries = (P.shown problem.now.rules (P.replies_of search.now)).entries in
         (text : List ℕ) → IfOk line (λ l. l.items ≡ text)
-        → Reported (O.told out.old) (O.told out.new) result end (Lines.lines_with problem.now.rules.space entries text) }
+        → let lines = Lines.lines_with problem.now.rules.space entries text in
+        Reported (O.told out.old) (O.told out.new) result end lines }
 {
     let entries = search.entries();
     let Ok(line) = line else {
@@ -137,7 +137,7 @@ fn report_short<P: Search, O: Sink>(
 ) -> Status
     requires { P.rules_of search.now ≡ problem.now.rules }
     ensures { let entries = (P.shown problem.now.rules (P.replies_of search.now)).entries in
-        let lines = Lines.lines_with problem.now.rules.space entries Lines.no_memory_line in
+        let lines = Lines.lines_with problem.now.rules.space entries RefusalLines.no_memory_line in
         Reported (O.told out.old) (O.told out.new) result Status.NoMemory lines }
 {
     let line = no_memory_line(alloc);
@@ -215,7 +215,7 @@ pub(crate) fn report_no_memory<P: Search, O: Sink, S: Spawner>(
     requires board { IsBoardOf task.now P.plain board.now }
     ensures ending { (call : Call) → Runs call task.now S.truth
         → Conducted call (O.told out.old) (O.told out.new) result }
-    ensures answer { IsTrue (is_unsaid result) }
+    ensures answer { IsTrue (may_end_any_call result) }
 {
     board.is_board();
     report_short(alloc, &task.problem, board.search(), out)

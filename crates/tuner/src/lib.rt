@@ -1,20 +1,16 @@
-//! The top call: it reads words and files, runs the search, and prints.
+//! The top call: it reads words and files, runs the search, and prints. What stands before the
+//! search, and what a call answers, is of `tune_front`.
 #![tactic(auto)]
 
 mod driving;
 mod finishing;
+mod kept_faults;
 mod lines;
-mod reading;
-mod rule_names;
-mod saying;
-mod status;
-mod task;
 mod together;
 mod tuning;
 
 pub use board_steps::{Problem, Truth};
 pub use pool_run::Seat;
 pub use run_cache::Cell;
-pub use status::{FileKind, Status, What};
-pub use task::Task;
+pub use tune_front::{FileKind, Status, Task, What};
 pub use tuning::tune;

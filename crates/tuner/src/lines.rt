@@ -1,12 +1,11 @@
-//! The lines that are printed.
+//! The lines of incumbents, of an end and of a run.
 ghost use Rattle.std.specs.Prelude.{◌≡◌, ◌++◌, ◌∷◌, [], All, IfOk, codes, string_bytes};
 ghost use Rattle.std.specs.List.{flat_map};
 ghost use Rattle.param_space.specs.Space.{Belongs};
 ghost use Rattle.param_space.specs.Configurations.{IsConfig};
+ghost use Rattle.uncapped.specs.Procedure.{Incumbent};
 ghost use Rattle.tuner.specs.Lines;
 
-use crate::rule_names::rule_name;
-use crate::status::What;
 use ils_face::{Entry, Search};
 use objective::{Memory, Sum};
 use param_space::{Config, Space};
@@ -23,7 +22,8 @@ fn entry_line(
     config: &Config,
 ) -> Result<Vec<u8>, Memory>
     requires { Belongs space.now.params config.now }
-    ensures { IfOk result (λ line. line.items ≡ Lines.entry_line space.now (record { compared = compared; runs = runs; sum = sum.0; config = config.now })) }
+    ensures { let entry : Incumbent = record { compared = compared; runs = runs; sum = sum.0; config = config.now } in
+        IfOk result (λ line. line.items ≡ Lines.entry_line space.now entry) }
 {
     let mut line = format!(in alloc; "{compared} {runs} ")?.into_bytes();
     push_seconds(&mut line, sum.0)?;
@@ -36,7 +36,8 @@ fn entry_line(
 /// The lines of these incumbents, oldest first.
 fn entry_lines(alloc: Global, space: &Space, entries: &[Entry]) -> Result<Vec<Vec<u8>>, Memory>
     requires { All (λ e. IsConfig space.now e.config) entries.now }
-    ensures { IfOk result (λ lines. flat_map (λ line. line.items) lines.items ≡ Lines.entry_lines space.now entries.now) }
+    ensures { let text = Lines.entry_lines space.now entries.now in
+        IfOk result (λ lines. flat_map (λ line. line.items) lines.items ≡ text) }
 {
     let mut lines = Vec::new(alloc);
     for e in entries {
@@ -51,8 +52,10 @@ pub(crate) fn end_line<P: Search>(
     space: &Space,
     search: &P,
 ) -> Result<Vec<u8>, Memory>
-    requires { IsConfig space.now (P.shown (P.rules_of search.now) (P.replies_of search.now)).last.config }
-    ensures { IfOk result (λ line. line.items ≡ Lines.end_line space.now (P.shown (P.rules_of search.now) (P.replies_of search.now)).last) }
+    requires { let view = P.shown (P.rules_of search.now) (P.replies_of search.now) in
+        IsConfig space.now view.last.config }
+    ensures { let view = P.shown (P.rules_of search.now) (P.replies_of search.now) in
+        IfOk result (λ line. line.items ≡ Lines.end_line space.now view.last) }
 {
     let (runs, sum) = (search.incumbent_runs(), search.incumbent_sum());
     let entry = entry_line(
@@ -76,52 +79,12 @@ pub(crate) fn lines_with(
     line: Vec<u8>,
 ) -> Result<Vec<Vec<u8>>, Memory>
     requires { All (λ e. IsConfig space.now e.config) entries.now }
-    ensures { IfOk result (λ lines. flat_map (λ l. l.items) lines.items ≡ Lines.lines_with space.now entries.now line.items) }
+    ensures { let text = Lines.lines_with space.now entries.now line.items in
+        IfOk result (λ lines. flat_map (λ l. l.items) lines.items ≡ text) }
 {
     let mut lines = entry_lines(alloc, space, entries)?;
     lines.push(line)?;
     Ok(lines)
-}
-
-/// The line that there is no memory left.
-pub(crate) fn no_memory_line(alloc: Global) -> Result<Vec<u8>, Memory>
-    ensures { IfOk result (λ line. line.items ≡ Lines.no_memory_line) }
-{
-    Ok(Vec::from_slice(alloc, b"nomemory\n")?)
-}
-
-/// The line of a wrong word: its place, from 0.
-pub(crate) fn usage_line(alloc: Global, place: u32) -> Result<Vec<u8>, Memory>
-    ensures { IfOk result (λ line. line.items ≡ Lines.usage_line place) }
-{
-    Ok(format!(in alloc; "usage {place}\n")?.into_bytes())
-}
-
-/// The line of a failed read.
-pub(crate) fn read_fault_line(alloc: Global, name: &str) -> Result<Vec<u8>, Memory>
-    ensures { IfOk result (λ line. line.items ≡ Lines.read_fault_line name.now) }
-{
-    Ok(format!(in alloc; "readfault {name}\n")?.into_bytes())
-}
-
-/// The line of a file's first fault: the file's name, the fault's line and the rule's name.
-pub(crate) fn bad_file_line(
-    alloc: Global,
-    name: &str,
-    line: u32,
-    what: What,
-) -> Result<Vec<u8>, Memory>
-    ensures { IfOk result (λ text. text.items ≡ Lines.bad_file_line name.now line what) }
-{
-    let rule = rule_name(what);
-    Ok(format!(in alloc; "badfile {name} {line} {rule}\n")?.into_bytes())
-}
-
-/// The line of too few seats.
-pub(crate) fn seats_line(alloc: Global, asked: u32, given: u32) -> Result<Vec<u8>, Memory>
-    ensures { IfOk result (λ line. line.items ≡ Lines.seats_line asked given) }
-{
-    Ok(format!(in alloc; "seats {asked} {given}\n")?.into_bytes())
 }
 
 /// A word, and the place and the settings of a run.

@@ -1,24 +1,20 @@
 //! The board of a task is worked on by several seats beside each other.
-ghost use Rattle.std.specs.Prelude.{◌≡◌, ◌<◌, ◌↔◌, ℕ, IsTrue, IfOk, IsSomeAnd, length, slice_get, slice_index_or};
+ghost use Rattle.std.specs.Prelude.{◌≡◌, ◌<◌, ◌↔◌, ℕ, IsTrue, length, slice_index_or};
 ghost use Rattle.std.specs.List.{list_any};
-ghost use Rattle.board_steps.specs.Numbering.{IsRunnableTake};
 ghost use Rattle.pool_run.specs.Seats.{SeatState};
 ghost use Rattle.tuner.specs.Calls.{Call};
 ghost use Rattle.tuner.specs.Conducted.{Conducted};
-ghost use Rattle.tuner.specs.Promises.{EndsAs, is_unsaid};
+ghost use Rattle.tuner.specs.AnyAnswers.{may_end_any_call};
 ghost use Rattle.tuner.specs.ReadyToDrive.{IsBoardOf};
 ghost use Rattle.tuner.specs.SeatsTogether.{AreIdle, AreSeatsOf, HasWorkedOn, RunsOn, RunsWorked};
-ghost use Rattle.tuner.specs.SeatsTogether.{IsFirst, IsTakeOf, IsTakenIn, KeepsTaken, ReportsFault};
+ghost use Rattle.tuner.specs.KeptFaults.{ReportsFault};
 ghost use Rattle.tuner.specs.Tasks.{IsProcedureOf};
 
 use crate::driving::{drive_board, open_board, run_alone};
-use crate::finishing::{report_ending, report_fault, report_no_memory};
-use crate::saying::say_no_memory;
-use crate::status::Status;
-use crate::task::Task;
-use board_steps::{Event, Kind, Problem, Ticket};
+use crate::finishing::{report_ending, report_no_memory};
+use crate::kept_faults::{first_fault, report_kept};
+use board_steps::Problem;
 use ils_face::Search;
-use objective::Memory;
 use outside::{Sink, Spawner};
 use pool_core::Board;
 use pool_run::{Seat, is_over, work};
@@ -26,7 +22,8 @@ use std::alloc::Global;
 use std::sync::{Condvar, Mutex, Wait};
 use std::thread;
 use std::thread::Threads;
-use wrapper_lines::{Program, Run};
+use tune_front::{Status, Task, say_no_memory};
+use wrapper_lines::Program;
 
 /// Lets a seat work on a board, after what it keeps of an earlier tuning is dropped. It may wait.
 fn work_anew<R: Wait, P: Search, S: Spawner>(
@@ -69,121 +66,11 @@ fn work_all<R: Threads + Wait + Sync, P: Search + Send, S: Spawner + Send>(
     board.into_inner()
 }
 
-/// Whether an event of a problem's board is that this ticket was taken, which was asked for.
-fn is_take_of(
-    alloc: Global,
-    problem: &Problem,
-    event: &Event,
-    ticket: &Ticket,
-) -> Result<bool, Memory>
-    requires { IsRunnableTake problem.now.rules event.now }
-    ensures { IfOk result (λ own. IsTrue own ↔ IsTakeOf problem.now ticket.now event.now) }
-{
-    let Event::Take {
-        number,
-        kind,
-        cell,
-        cutoff,
-        asked_at,
-    } = event
-    else {
-        return Ok(false);
-    };
-    if *number != ticket.number {
-        return Ok(false);
-    }
-    let own = Ticket {
-        number: *number,
-        cell: cell.copy()?,
-        run: Run {
-            key: problem.key_of(alloc, cell)?,
-            cutoff: *cutoff,
-        },
-        kind: *kind,
-        place: *asked_at,
-    };
-    match own.kind {
-        Kind::Asked => Ok(own.is(ticket)),
-        Kind::Ahead => Ok(false),
-    }
-}
-
-/// Whether this ticket is one that a board gave for a run that was needed.
-fn is_asked_on<P: Search, S: Spawner>(
-    alloc: Global,
-    board: &Board<P, S>,
-    ticket: &Ticket,
-) -> Result<bool, Memory>
-    ensures { IfOk result (λ own. IsTrue own ↔ IsTakenIn board.now.problem board.now.journal ticket.now) }
-{
-    board.is_board();
-    let journal = board.journal();
-    for event in journal {
-        if is_take_of(alloc, board.problem(), event, ticket)? {
-            return Ok(true);
-        }
-    }
-    Ok(false)
-}
-
-/// Whether a seat keeps a ticket of a board whose run failed.
-fn keeps_fault<P: Search, S: Spawner>(
-    alloc: Global,
-    board: &Board<P, S>,
-    seat: &Seat<S>,
-) -> Result<bool, Memory>
-    ensures { IfOk result (λ keeps. IsTrue keeps ↔ KeepsTaken board.now seat.now) }
-{
-    match seat.fault() {
-        Some(ticket) => is_asked_on(alloc, board, ticket),
-        None => Ok(false),
-    }
-}
-
-/// The number of the first seat that keeps a ticket of a board whose run failed.
-fn first_fault<P: Search, S: Spawner>(
-    alloc: Global,
-    board: &Board<P, S>,
-    seats: &[Seat<S>],
-) -> Result<Option<usize>, Memory>
-    ensures { IfOk result (IsFirst (KeepsTaken board.now) seats.now) }
-{
-    for k in 0..seats.len() {
-        if keeps_fault(alloc, board, &seats[k])? {
-            return Ok(Some(k));
-        }
-    }
-    Ok(None)
-}
-
 /// Whether one of these seats had no memory.
 fn is_short<S: Spawner>(seats: &[Seat<S>]) -> bool
     ensures { result ≡ list_any (λ seat. seat.short) seats.now }
 {
     seats.iter().any(|seat| seat.short())
-}
-
-/// Prints what a board of this task shows so far, and the run of the ticket that a seat keeps.
-fn report_kept<P: Search, O: Sink, S: Spawner>(
-    alloc: Global,
-    task: &Task,
-    board: &Board<P, S>,
-    number: usize,
-    seats: &[Seat<S>],
-    out: &mut O,
-) -> Status
-    requires board { IsBoardOf task.now P.plain board.now }
-    requires seats { AreSeatsOf task.now seats.now }
-    requires kept { IsSomeAnd (slice_get seats.now number) (KeepsTaken board.now) }
-    ensures ending { (call : Call) → RunsWorked call task.now S.truth seats.now seats.now
-        → Conducted call (O.told out.old) (O.told out.new) result }
-    ensures answer { EndsAs (Status.ChildFault number) result }
-{
-    let _ = task.workers();
-    match seats[number].fault() {
-        Some(ticket) => report_fault(alloc, task, board, number as u32, ticket, out),
-        None => unreachable!(),
-    }
 }
 
 /// Lets the first seat drive a board of this task on, unless a seat had no memory, and prints how that
@@ -201,7 +88,7 @@ fn go_on<R: Wait, P: Search, O: Sink, S: Spawner>(
     ensures idle { AreIdle seats.new }
     ensures ending { (call : Call) → RunsWorked call task.now S.truth seats.old seats.new
         → Conducted call (O.told out.old) (O.told out.new) result }
-    ensures short { IsTrue (list_any (λ seat. seat.short) seats.old) → IsTrue (is_unsaid result) }
+    ensures short { IsTrue (list_any (λ seat. seat.short) seats.old) → IsTrue (may_end_any_call result) }
 {
     if is_short(seats) {
         return report_no_memory(alloc, task, board, out);

@@ -5,21 +5,13 @@ ghost use Rattle.scenario_files.specs.Ranges.{AreWordsWithin};
 ghost use Rattle.scenario_files.specs.Words.{words_read};
 ghost use Rattle.tuner.specs.Calls.{Call, IsSeated, call_of};
 ghost use Rattle.tuner.specs.Causes.{HasCause};
-ghost use Rattle.tuner.specs.Lines;
-ghost use Rattle.tuner.specs.PrintedTexts.{Ending, Reported};
 ghost use Rattle.tuner.specs.Conducted.{Conducted, IsAbout};
+ghost use Rattle.tuner.specs.PrintedTexts.{Printed};
 ghost use Rattle.tuner.specs.Promises.{AbortSentence, Headline, IsComplete, PrintsFirst};
 ghost use Rattle.tuner.specs.Promises.{RefusesFaulty, RefusesMisused, RefusesUnseated, Starts};
-ghost use Rattle.tuner.specs.Refusals.{ReportsMisuse, ReportsRefusal};
 ghost use Rattle.tuner.specs.Tasks.{IsProcedureOf};
 
 use crate::driving::run_alone;
-use crate::lines::{bad_file_line, read_fault_line, seats_line, usage_line};
-use crate::reading::refusal::Refusal;
-use crate::reading::tasks::read_task;
-use crate::saying::{say_made, say_no_memory};
-use crate::status::Status;
-use crate::task::Task;
 use crate::together::run_together;
 use basic_ils::Basic;
 use focused_ils::Focused;
@@ -28,53 +20,11 @@ use ils_frame::Ils;
 use outside::{Files, Sink, Spawner};
 use plain_text::Text;
 use pool_run::Seat;
-use scenario_files::{Approach, WordFault, Words, read_words};
+use scenario_files::{Approach, Words, read_words};
 use std::alloc::Global;
 use std::sync::Wait;
 use std::thread::Threads;
-
-/// Prints why words are no call.
-fn refuse_words<O: Sink>(alloc: Global, fault: WordFault, out: &mut O) -> Status
-    ensures { ReportsMisuse fault (O.told out.old) (O.told out.new) result }
-{
-    match fault {
-        WordFault::At { place } => {
-            say_made(out, usage_line(alloc, place), Status::Usage { place })
-        }
-        WordFault::Memory => say_no_memory(out),
-    }
-}
-
-/// Prints why files make no task.
-fn refuse_files<O: Sink>(alloc: Global, refusal: Refusal, out: &mut O) -> Status
-    ensures { ReportsRefusal refusal (O.told out.old) (O.told out.new) result }
-{
-    match refusal {
-        Refusal::BadFile {
-            kind,
-            name,
-            line,
-            what,
-        } => {
-            let text = bad_file_line(alloc, name.as_str(), line, what);
-            say_made(out, text, Status::BadFile { kind, line, what })
-        }
-        Refusal::ReadFault { kind, name } => {
-            let line = read_fault_line(alloc, name.as_str());
-            say_made(out, line, Status::ReadFault { kind })
-        }
-        Refusal::Memory => say_no_memory(out),
-    }
-}
-
-/// Prints that there are fewer seats than are asked for.
-fn refuse_seats<O: Sink>(alloc: Global, asked: u32, given: u32, out: &mut O) -> Status
-    ensures { let line = Lines.seats_line asked given in
-        Reported (O.told out.old) (O.told out.new) result (Status.TooFewSeats asked given) line }
-{
-    let line = seats_line(alloc, asked, given);
-    say_made(out, line, Status::TooFewSeats { asked, given })
-}
+use tune_front::{Status, Task, read_task, refuse_files, refuse_seats, refuse_words};
 
 /// Runs a task over this kind of search on as many of the seats as it asks for. It may wait.
 fn run_seated<R: Threads + Wait + Sync, P: Search + Send, O: Sink, S: Spawner + Send>(
@@ -217,7 +167,7 @@ pub fn tune<R: Threads + Wait + Sync, F: Files, O: Sink, S: Spawner + Send>(
 
     // What the output holds after each answer, also where it couldn't be written whole; with
     // ChildFault the entries that come before the failed run's ask are among them.
-    ensures ending { Ending words.now (F.told files.old) S.truth seats.new (O.told out.old) (O.told out.new) result }
+    ensures ending { Printed words.now (F.told files.old) S.truth seats.new (O.told out.old) (O.told out.new) result }
     ensures log { log.new ≡ log.old }
     ensures idle { All (λ seat. IsTrue seat.told.idle) seats.new }
 {

@@ -1,6 +1,6 @@
 use Rattle.std.proofs.Common.{sym, subst, ◌∙◌, arith}
 use Rattle.board_steps.specs.Problem.{Problem}
-use Rattle.tuner.specs.SeatsTogether.{IsTakenIn}
+use Rattle.tuner.specs.KeptFaults.{IsTakenIn}
 use Rattle.tuner.proofs.DrivenSeats.{keeps_fault, kept_taken, started_call}
 use Rattle.tuner.proofs.driving.drive_board.Goals as goal
 

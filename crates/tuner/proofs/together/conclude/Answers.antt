@@ -1,9 +1,10 @@
 use Rattle.std.proofs.Common.{ℕ, Option, sym, subst, ◌∙◌, inr}
 use Rattle.std.proofs.lemmas.Bool.{false≢true}
-use Rattle.tuner.specs.Promises.{EndsAs}
-use Rattle.tuner.specs.SeatsTogether.{IsFirst, KeepsTaken}
-use Rattle.tuner.specs.declared.status.Status.TheVariants as status
-use Rattle.tuner.proofs.SeatsTogether.{first_drives, first_none, first_once, starts_together}
+use Rattle.tuner.specs.AnyAnswers.{EndsAs}
+use Rattle.tuner.specs.KeptFaults.{IsFirst, KeepsTaken}
+use Rattle.tune_front.specs.declared.status.Status.TheVariants as status
+use Rattle.tuner.proofs.KeptFaults.{first_none, first_once}
+use Rattle.tuner.proofs.SeatsTogether.{first_drives, starts_together}
 use Rattle.tuner.proofs.together.conclude.Goals as goal
 
 pub report_ending-requires-clause-board : goal.report_ending-requires-clause-board

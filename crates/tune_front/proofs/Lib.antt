@@ -1,0 +1,2 @@
+mod SaidTexts
+mod ReadingCauses

@@ -1,7 +1,0 @@
-use Rattle.std.proofs.Common.{All, take}
-use Rattle.tuner.specs.SeatsTogether.{IsTakeOf}
-use Rattle.tuner.proofs.together.is_asked_on.Given as goal
-
--- none of the events so far is of the ticket
-abbrev pub invariant-loop-event : goal.invariant-loop-event
-invariant-loop-event g l = All (λ e. ¬ IsTakeOf l.board.problem l.ticket e) (take l.event-index l.journal)
