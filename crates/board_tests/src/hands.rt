@@ -300,29 +300,58 @@ fn boards_by_hand(rt: HostRuntime) {
             "a run ahead that aborts where the walk never comes",
             "34uu8x",
             1,
-            "advance Waits|wishes-5 a2@10.000000,|wishes-0 |take Asked 1 a1@10.000000 0|take Ahead 2 a2@10.000000 0|take Idle|live 2|record-1 Fresh|record-2 Fresh|take Decided|advance Moved|advance Moved|advance Waits|wishes-5 b2@7.000000,|take Asked 3 b1@7.000000 2|take Ahead 4 b2@7.000000 2|record-4 Fresh|record-3 Fresh|advance Moved|advance Ended|take Ended|ending Finished|live 0|",
-            "0 2 7.000000 a|Advance|Asked 1 a1@10.000000 0|Ahead 2 a2@10.000000 0|Record 1 Solved(Micros(3000000))|Record 2 Solved(Micros(4000000))|Advance|Advance|Asked 3 b1@7.000000 2|Ahead 4 b2@7.000000 2|Record 4 Abort|Record 3 Timeout|Advance|",
+            "advance Waits|wishes-5 a2@10.000000,|wishes-0 |take Asked 1 a1@10.000000 0|\
+             take Ahead 2 a2@10.000000 0|take Idle|live 2|record-1 Fresh|record-2 Fresh|\
+             take Decided|advance Moved|advance Moved|advance Waits|wishes-5 b2@7.000000,|\
+             take Asked 3 b1@7.000000 2|take Ahead 4 b2@7.000000 2|record-4 Fresh|record-3 Fresh|\
+             advance Moved|advance Ended|take Ended|ending Finished|live 0|",
+            "0 2 7.000000 a|Advance|Asked 1 a1@10.000000 0|Ahead 2 a2@10.000000 0|\
+             Record 1 Solved(Micros(3000000))|Record 2 Solved(Micros(4000000))|Advance|Advance|\
+             Asked 3 b1@7.000000 2|Ahead 4 b2@7.000000 2|Record 4 Abort|Record 3 Timeout|Advance|",
         ),
         (
             "a run ahead that is lost",
             "34uu8x",
             1,
-            "advance Waits|wishes-5 a2@10.000000,|wishes-0 |take Asked 1 a1@10.000000 0|take Ahead 2 a2@10.000000 0|take Idle|live 2|record-1 Fresh|record-2 Fresh|take Decided|advance Moved|advance Moved|advance Waits|take Asked 3 b1@7.000000 2|take Ahead 4 b2@7.000000 2|lost-4 true|take Idle|record-3 Fresh|advance Moved|advance Ended|take Ended|ending Finished|lost-4 false|",
-            "0 2 7.000000 a|Advance|Asked 1 a1@10.000000 0|Ahead 2 a2@10.000000 0|Record 1 Solved(Micros(3000000))|Record 2 Solved(Micros(4000000))|Advance|Advance|Asked 3 b1@7.000000 2|Ahead 4 b2@7.000000 2|Lost 4|Record 3 Timeout|Advance|",
+            "advance Waits|wishes-5 a2@10.000000,|wishes-0 |take Asked 1 a1@10.000000 0|\
+             take Ahead 2 a2@10.000000 0|take Idle|live 2|record-1 Fresh|record-2 Fresh|\
+             take Decided|advance Moved|advance Moved|advance Waits|take Asked 3 b1@7.000000 2|\
+             take Ahead 4 b2@7.000000 2|lost-4 true|take Idle|record-3 Fresh|advance Moved|\
+             advance Ended|take Ended|ending Finished|lost-4 false|",
+            "0 2 7.000000 a|Advance|Asked 1 a1@10.000000 0|Ahead 2 a2@10.000000 0|\
+             Record 1 Solved(Micros(3000000))|Record 2 Solved(Micros(4000000))|Advance|Advance|\
+             Asked 3 b1@7.000000 2|Ahead 4 b2@7.000000 2|Lost 4|Record 3 Timeout|Advance|",
         ),
         (
             "a needed cutoff below a live run ahead's",
             "34uu24",
             2,
-            "advance Waits|wishes-5 a2@10.000000,|wishes-0 |take Asked 1 a1@10.000000 0|take Ahead 2 a2@10.000000 0|take Idle|live 2|record-1 Fresh|record-2 Fresh|take Decided|advance Moved|advance Moved|advance Waits|wishes-1 b2@10.000000,|wishes-7 b2@10.000000,|take Asked 3 b1@7.000000 2|take Ahead 4 b2@10.000000 2|record-3 Fresh|advance Waits|standing-4 Live|mark 1|standing-4 Marked|take Idle|record-4 Marked|known-4 Nothing|killed-4 true|standing-4 Stranger|take Asked 5 b2@5.000000 2|record-5 Fresh|advance Moved|advance Moved|advance Moved|advance Ended|ending Finished|",
-            "0 2 7.000000 a|1 2 6.000000 b|Advance|Asked 1 a1@10.000000 0|Ahead 2 a2@10.000000 0|Record 1 Solved(Micros(3000000))|Record 2 Solved(Micros(4000000))|Advance|Advance|Asked 3 b1@7.000000 2|Ahead 4 b2@10.000000 2|Record 3 Solved(Micros(2000000))|Advance|Mark 4|Killed 4|Asked 5 b2@5.000000 2|Record 5 Solved(Micros(4000000))|Advance|Advance|Advance|",
+            "advance Waits|wishes-5 a2@10.000000,|wishes-0 |take Asked 1 a1@10.000000 0|\
+             take Ahead 2 a2@10.000000 0|take Idle|live 2|record-1 Fresh|record-2 Fresh|\
+             take Decided|advance Moved|advance Moved|advance Waits|wishes-1 b2@10.000000,|\
+             wishes-7 b2@10.000000,|take Asked 3 b1@7.000000 2|take Ahead 4 b2@10.000000 2|\
+             record-3 Fresh|advance Waits|standing-4 Live|mark 1|standing-4 Marked|take Idle|\
+             record-4 Marked|known-4 Nothing|killed-4 true|standing-4 Stranger|\
+             take Asked 5 b2@5.000000 2|record-5 Fresh|advance Moved|advance Moved|advance Moved|\
+             advance Ended|ending Finished|",
+            "0 2 7.000000 a|1 2 6.000000 b|Advance|Asked 1 a1@10.000000 0|Ahead 2 a2@10.000000 0|\
+             Record 1 Solved(Micros(3000000))|Record 2 Solved(Micros(4000000))|Advance|Advance|\
+             Asked 3 b1@7.000000 2|Ahead 4 b2@10.000000 2|Record 3 Solved(Micros(2000000))|\
+             Advance|Mark 4|Killed 4|Asked 5 b2@5.000000 2|Record 5 Solved(Micros(4000000))|\
+             Advance|Advance|Advance|",
         ),
         (
             "stop and resume",
             "34uu8x",
             1,
-            "advance Waits|wishes-5 a2@10.000000,|wishes-0 |take Asked 1 a1@10.000000 0|take Ahead 2 a2@10.000000 0|take Idle|live 2|record-1 Fresh|record-2 Fresh|take Decided|advance Moved|advance Moved|advance Waits|take Asked 3 b1@7.000000 2|stop -|take Stopped|advance Stopped|standing-3 Marked|killed-3 true|resume Ok|take Asked 4 b1@7.000000 2|",
-            "0 2 7.000000 a|Advance|Asked 1 a1@10.000000 0|Ahead 2 a2@10.000000 0|Record 1 Solved(Micros(3000000))|Record 2 Solved(Micros(4000000))|Advance|Advance|Asked 3 b1@7.000000 2|Stop|Killed 3|Resume|Asked 4 b1@7.000000 2|",
+            "advance Waits|wishes-5 a2@10.000000,|wishes-0 |take Asked 1 a1@10.000000 0|\
+             take Ahead 2 a2@10.000000 0|take Idle|live 2|record-1 Fresh|record-2 Fresh|\
+             take Decided|advance Moved|advance Moved|advance Waits|take Asked 3 b1@7.000000 2|\
+             stop -|take Stopped|advance Stopped|standing-3 Marked|killed-3 true|resume Ok|\
+             take Asked 4 b1@7.000000 2|",
+            "0 2 7.000000 a|Advance|Asked 1 a1@10.000000 0|Ahead 2 a2@10.000000 0|\
+             Record 1 Solved(Micros(3000000))|Record 2 Solved(Micros(4000000))|Advance|Advance|\
+             Asked 3 b1@7.000000 2|Stop|Killed 3|Resume|Asked 4 b1@7.000000 2|",
         ),
     ] {
         let right = is_so::<Ils<Basic>>(rt.alloc(), (letters, *budget, lines, keeps));

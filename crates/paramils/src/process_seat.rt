@@ -142,8 +142,8 @@ fn new_file<R: Files<File = File> + AllocGlobal>(
     process: u32,
     name: &str,
 ) -> io::Result<File> {
-    for place in 0..MOST_NAMES {
-        let own = format!(in rt.alloc(); "{name}.{process}.{place}")?;
+    for attempt in 0..MOST_NAMES {
+        let own = format!(in rt.alloc(); "{name}.{process}.{attempt}")?;
         let file = renamed_file(rt, own.as_str(), name);
         if !is_taken(&file) {
             return file;
@@ -172,6 +172,18 @@ fn spawn<R: Processes + AllocGlobal>(
     command.spawn(rt)
 }
 
+/// Starts a child whose output goes to this file.
+fn launch_into<R: Processes + AllocGlobal>(
+    rt: &R,
+    dir: &str,
+    words: &[Text],
+    output: File,
+    errors: &File,
+) -> io::Result<Running<R::Started>> {
+    let child = spawn(rt, dir, words, &output, errors)?;
+    Ok(Running { child, output })
+}
+
 /// Starts a child with a new file for its output.
 fn launch<R: Files<File = File> + Processes + AllocGlobal>(
     rt: &R,
@@ -181,8 +193,7 @@ fn launch<R: Files<File = File> + Processes + AllocGlobal>(
     errors: &File,
 ) -> io::Result<Running<R::Started>> {
     let output = new_file(rt, names.process, names.output.as_str())?;
-    let child = spawn(rt, dir, words, &output, errors)?;
-    Ok(Running { child, output })
+    launch_into(rt, dir, words, output, errors)
 }
 
 /// Writes which program couldn't be started, in which folder, and what the system says of it.
@@ -278,7 +289,15 @@ impl<'a, R: Files<File = File> + Processes + Clock + AllocGlobal> ProcessSeat<'a
 }
 
 impl<'a, R: Files<File = File> + Processes + Clock + AllocGlobal> Spawner for ProcessSeat<'a, R> {
-    ghost told = { λ s. record { idle = is_none s.child; held = s.is_held; current = s.runs.current; failed_run = s.runs.failed_run; started = None; folders = None; faults = s.faults } };
+    ghost told = { λ s. record {
+        idle = is_none s.child;
+        held = s.is_held;
+        current = s.runs.current;
+        failed_run = s.runs.failed_run;
+        started = None;
+        folders = None;
+        faults = s.faults;
+    } };
 
     ghost truth = { None };
 
