@@ -1,26 +1,32 @@
 //! The child of a ticket, beside other seats. The board is locked for single steps alone, never while a
 //! child is started, looked at or killed.
-ghost use Rattle.std.specs.Prelude.{◌≡◌, ◌≤◌, IsTrue, Some, is_ok, true, false};
+ghost use Rattle.std.specs.Prelude.{◌≡◌, ◌≤◌, IsTrue, Some, true, false};
 ghost use Rattle.outside.specs.Changes.{has_failed};
 ghost use Rattle.outside.specs.Counts.{Rose};
 ghost use Rattle.pool_run.specs.Starts.{MayHaveStarted};
 
-use crate::runs::start_run;
+use crate::runs::{Wanted, Watched, shown_answer, start_run, watch};
 use crate::turns::give_up;
 use ils_face::Search;
-use outside::{Fail, Fault, Poll, Spawner};
+use outside::{Fault, Spawner};
 use pool_core::{Board, Standing, Ticket};
 use std::alloc::Global;
 use std::sync::{Condvar, Mutex, Wait};
-use wrapper_lines::{Program, answer_of};
+use wrapper_lines::Program;
 
-/// Whether the run of a ticket is still wanted. It may wait.
-fn is_wanted<R: Wait, P: Search, S: Spawner>(
-    rt: &R,
-    board: &Mutex<Board<P, S>>,
-    ticket: &Ticket,
-) -> bool {
-    board.lock(rt).standing(ticket) == Standing::Live
+/// A ticket of a board that is shared: its run is wanted as long as it isn't marked.
+#[derive(Drop)]
+struct UntilMarked<'a, P: Search, S: Spawner> {
+    board: &'a Mutex<Board<P, S>>,
+    ticket: &'a Ticket,
+}
+
+impl<'a, P: Search, S: Spawner> Wanted for UntilMarked<'a, P, S> {
+    ghost always = { false };
+
+    fn is_wanted<R: Wait>(&self, rt: &R) -> bool {
+        self.board.lock(rt).standing(self.ticket) == Standing::Live
+    }
 }
 
 /// Tells the board that the child of a ticket was killed. It may wait.
@@ -47,7 +53,7 @@ fn tell_answer<R: Wait, P: Search, S: Spawner>(
 {
     let mut locked = board.lock(rt);
     if locked.standing(ticket) == Standing::Live {
-        let answer = answer_of(spawner.output(), ticket.run.cutoff);
+        let answer = shown_answer(spawner, &ticket.run);
         locked.record(ticket, answer);
     } else {
         locked.killed(ticket);
@@ -69,43 +75,6 @@ pub(crate) fn tell_lost<R: Wait, P: Search, S: Spawner>(
     bell.notify_all();
 }
 
-/// Looks at the child of a ticket until it has ended, and tells the board its answer; a child that isn't
-/// wanted any more is killed. It may wait.
-fn watch<R: Wait, P: Search, S: Spawner>(
-    rt: &R,
-    board: &Mutex<Board<P, S>>,
-    bell: &Condvar,
-    spawner: &mut S,
-    ticket: &Ticket,
-) -> Result<(), Fail>
-    requires running { (S.told spawner.old).idle ≡ false }
-    requires current { (S.told spawner.old).current ≡ Some ticket.now.run }
-    ensures idle { IsTrue (S.told spawner.new).idle }
-    ensures started { (S.told spawner.new).started ≡ (S.told spawner.old).started }
-    ensures folders { (S.told spawner.new).folders ≡ (S.told spawner.old).folders }
-    ensures failed_run { is_ok result ≡ false → (S.told spawner.new).failed_run ≡ Some ticket.now.run }
-    ensures rose { is_ok result ≡ false → Rose (S.told spawner.old).faults (S.told spawner.new).faults }
-    ensures counts { (S.told spawner.old).faults ≤ (S.told spawner.new).faults }
-{
-    for _ in rt.forever() {
-        match spawner.poll()? {
-            Poll::Ended => {
-                tell_answer(rt, board, bell, spawner, ticket);
-                return Ok(());
-            }
-            Poll::Pending => {
-                if !is_wanted(rt, board, ticket) {
-                    spawner.kill();
-                    tell_killed(rt, board, bell, ticket);
-                    return Ok(());
-                }
-                spawner.pause();
-            }
-        }
-    }
-    unreachable!()
-}
-
 /// Makes the run of a ticket and tells the board its answer, unless it isn't wanted any more. It may wait.
 pub(crate) fn run_beside<R: Wait, P: Search, S: Spawner>(
     rt: &R,
@@ -124,8 +93,15 @@ pub(crate) fn run_beside<R: Wait, P: Search, S: Spawner>(
     ensures rose { has_failed result ≡ true → Rose (S.told spawner.old).faults (S.told spawner.new).faults }
 {
     start_run(alloc, spawner, program, &ticket.run)?;
-    match watch(rt, board, bell, spawner, ticket) {
-        Ok(()) => Ok(()),
+    match watch(rt, spawner, &UntilMarked { board, ticket }) {
+        Ok(Watched::Ended) => {
+            tell_answer(rt, board, bell, spawner, ticket);
+            Ok(())
+        }
+        Ok(Watched::Killed) => {
+            tell_killed(rt, board, bell, ticket);
+            Ok(())
+        }
         Err(_) => Err(Fault::Failed),
     }
 }
