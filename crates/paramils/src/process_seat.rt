@@ -290,13 +290,13 @@ impl<'a, R: Files<File = File> + Processes + Clock + AllocGlobal> ProcessSeat<'a
 
 impl<'a, R: Files<File = File> + Processes + Clock + AllocGlobal> Spawner for ProcessSeat<'a, R> {
     ghost told = { λ s. record {
-        idle = is_none s.child;
-        held = s.is_held;
-        current = s.runs.current;
-        failed_run = s.runs.failed_run;
-        started = None;
-        folders = None;
-        faults = s.faults;
+      idle = is_none s.child;
+      held = s.is_held;
+      current = s.runs.current;
+      failed_run = s.runs.failed_run;
+      started = None;
+      folders = None;
+      faults = s.faults;
     } };
 
     ghost truth = { None };
