@@ -12,7 +12,7 @@ use Rattle.plain_text.specs.Lines.{is_break, lines, lines_among}
 use Rattle.plain_text.specs.Times.{micros_read}
 use Rattle.plain_text.specs.Trimming.{end_trimmed, trimmed}
 use Rattle.plain_text.specs.Words.{is_blank}
-use Rattle.plain_text.proofs.FirstPlaces.{list_all-weaker, list_all-joined, before_first-found}
+use Rattle.plain_text.proofs.FirstPositions.{list_all-weaker, list_all-joined, before_first-found}
 use Rattle.plain_text.proofs.LineTexts.{fits_line, fits_line-plain, lines-ended}
 use Rattle.plain_text.proofs.WrittenTimes.{is_time_byte, seconds-time_bytes, micros_read-seconds}
 use Rattle.objective.specs.Costs.{seen}

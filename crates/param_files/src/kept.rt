@@ -9,7 +9,7 @@ use crate::faults::{ParamFault, broken};
 use crate::line_rules::{clause_fault, condition_fault, param_fault};
 use crate::statements::{NamedPick, Statement};
 use param_space::Param;
-use plain_text::{Items, Text, place_of};
+use plain_text::{Items, Text, position_of};
 use std::alloc::Global;
 use std::marker::Model;
 
@@ -96,7 +96,7 @@ impl SpaceDraft {
         )? {
             return Err(broken(line, what));
         }
-        let default = place_of(texts, text) as u16;
+        let default = position_of(texts, text) as u16;
         self.params.push(Param {
             name,
             values,

@@ -4,8 +4,8 @@ use Rattle.std.proofs.lemmas.Bool.{eqb-true}
 use Rattle.std.proofs.lemmas.List.{length-take, length-drop}
 use Rattle.std.proofs.lemmas.List.Splits.{slice_split_first, slice_split-cons_no, length-slice_split}
 use Rattle.std.specs.List.{slice_split, onto_first, position_or_len}
-use Rattle.plain_text.specs.declared.line_places.Line.{Line}
-use Rattle.plain_text.specs.LinePlaces.{line_at, places_of, IsFirstLine}
+use Rattle.plain_text.specs.declared.line_positions.Line.{Line}
+use Rattle.plain_text.specs.LinePositions.{line_at, positions_of, IsFirstLine}
 use Rattle.plain_text.specs.Lines.{is_break, without_return, lines_among, lines, numbered_from}
 use Rattle.plain_text.proofs.KeptDigits.{drop_all}
 
@@ -27,12 +27,12 @@ unbroken (b ∷ text) e = by (is_break b) refl (λ rest. unbroken text rest)
         slice_split-cons_no is_break b text (sym t) ∙ ap (λ parts. onto_first b parts) (rest (omega (arith, f)))
 
 -- what no line feed ends is one line
-pub lines-open : (text later : List ℕ) (place : ℕ) → 0 < length text → place ≡ position_or_len is_break text → place ≡ length text → later ≡ drop place text → lines text ≡ text ∷ lines later
+pub lines-open : (text later : List ℕ) (position : ℕ) → 0 < length text → position ≡ position_or_len is_break text → position ≡ length text → later ≡ drop position text → lines text ≡ text ∷ lines later
 unfolding lines_among
-lines-open [] later place some first all rest = absurd (omega (arith, some))
-lines-open (b ∷ text) later place some first all rest =
+lines-open [] later position some first all rest = absurd (omega (arith, some))
+lines-open (b ∷ text) later position some first all rest =
     let parts = unbroken (b ∷ text) (sym first ∙ all) in
-    let none : later ≡ [] = rest ∙ drop_all place (b ∷ text) (omega (arith, all)) in
+    let none : later ≡ [] = rest ∙ drop_all position (b ∷ text) (omega (arith, all)) in
     ap lines_among parts ∙ ap (λ xs. (b ∷ text) ∷ lines xs) (sym none)
 
 -- a part before others
@@ -42,12 +42,12 @@ among_more part [] some = absurd (omega (arith, some))
 among_more part (next ∷ parts) some = refl
 
 -- a line before a line feed, and the others
-pub lines-ended : (text line later : List ℕ) (place : ℕ) → place ≡ position_or_len is_break text → place < length text → line ≡ without_return (take place text) → later ≡ drop (place + 1) text → lines text ≡ line ∷ lines later
-lines-ended text line later place first inside ends rest =
-    let parts : slice_split is_break text ≡ take place text ∷ slice_split is_break (drop (place + 1) text) =
+pub lines-ended : (text line later : List ℕ) (position : ℕ) → position ≡ position_or_len is_break text → position < length text → line ≡ without_return (take position text) → later ≡ drop (position + 1) text → lines text ≡ line ∷ lines later
+lines-ended text line later position first inside ends rest =
+    let parts : slice_split is_break text ≡ take position text ∷ slice_split is_break (drop (position + 1) text) =
     slice_split_first is_break text 0 (omega (arith, first, inside)) ∙ ap (λ k. take k text ∷ slice_split is_break (drop (k + 1) text)) (sym first) in
     ap lines_among parts
-    ∙ among_more (take place text) (slice_split is_break (drop (place + 1) text)) (omega (arith, length-slice_split is_break (drop (place + 1) text)))
+    ∙ among_more (take position text) (slice_split is_break (drop (position + 1) text)) (omega (arith, length-slice_split is_break (drop (position + 1) text)))
     ∙ (λ i. sym ends i ∷ lines (sym rest i))
 
 -- numbered lines, of which the first is taken
@@ -66,43 +66,43 @@ numbered-none_by n text seen test e =
     let size : length text ≡ 0 = eqb-true (length text) 0 (sym test) in
     let none : seen ≡ [] = sym e ∙ numbered-none n text size in (none, none)
 
--- ---- places
+-- ---- positions
 
--- what no line feed ends is one line, at its place
-pub places-open : (text later : List ℕ) (place : ℕ) → 0 < length text → place ≡ position_or_len is_break text → place ≡ length text → later ≡ drop place text → IsFirstLine text text later
-unfolding places_of
-places-open [] later place some first all rest given start = absurd (omega (arith, some))
-places-open (b ∷ text) later place some first all rest given start =
+-- what no line feed ends is one line, at its position
+pub positions-open : (text later : List ℕ) (position : ℕ) → 0 < length text → position ≡ position_or_len is_break text → position ≡ length text → later ≡ drop position text → IsFirstLine text text later
+unfolding positions_of
+positions-open [] later position some first all rest given start = absurd (omega (arith, some))
+positions-open (b ∷ text) later position some first all rest given start =
     let parts = unbroken (b ∷ text) (sym first ∙ all) in
-    let none : later ≡ [] = rest ∙ drop_all place (b ∷ text) (omega (arith, all)) in
-    ap (places_of given start) parts
-    ∙ ap (λ xs. line_at given start (length (b ∷ text)) ∷ places_of (given + 1) (start + (length (b ∷ text) - length later)) (slice_split is_break xs)) (sym none)
+    let none : later ≡ [] = rest ∙ drop_all position (b ∷ text) (omega (arith, all)) in
+    ap (positions_of given start) parts
+    ∙ ap (λ xs. line_at given start (length (b ∷ text)) ∷ positions_of (given + 1) (start + (length (b ∷ text) - length later)) (slice_split is_break xs)) (sym none)
 
 -- a part before others
-places_more : (given start : ℕ) (part : List ℕ) (parts : List (List ℕ)) → 0 < length parts → places_of given start (part ∷ parts) ≡ line_at given start (length (without_return part)) ∷ places_of (given + 1) (start + length part + 1) parts
-unfolding places_of
-places_more given start part [] some = absurd (omega (arith, some))
-places_more given start part (next ∷ parts) some = refl
+positions_more : (given start : ℕ) (part : List ℕ) (parts : List (List ℕ)) → 0 < length parts → positions_of given start (part ∷ parts) ≡ line_at given start (length (without_return part)) ∷ positions_of (given + 1) (start + length part + 1) parts
+unfolding positions_of
+positions_more given start part [] some = absurd (omega (arith, some))
+positions_more given start part (next ∷ parts) some = refl
 
--- a line before a line feed, at its place
-pub places-ended : (text line later : List ℕ) (place : ℕ) → place ≡ position_or_len is_break text → place < length text → line ≡ without_return (take place text) → later ≡ drop (place + 1) text → IsFirstLine text line later
-places-ended text line later place first inside ends rest given start =
-    let after = slice_split is_break (drop (place + 1) text) in
-    let parts : slice_split is_break text ≡ take place text ∷ after =
+-- a line before a line feed, at its position
+pub positions-ended : (text line later : List ℕ) (position : ℕ) → position ≡ position_or_len is_break text → position < length text → line ≡ without_return (take position text) → later ≡ drop (position + 1) text → IsFirstLine text line later
+positions-ended text line later position first inside ends rest given start =
+    let after = slice_split is_break (drop (position + 1) text) in
+    let parts : slice_split is_break text ≡ take position text ∷ after =
     slice_split_first is_break text 0 (omega (arith, first, inside)) ∙ ap (λ k. take k text ∷ slice_split is_break (drop (k + 1) text)) (sym first) in
-    let size : length later ≡ length text - (place + 1) = ap length rest ∙ length-drop (place + 1) text in
-    let next : start + length (take place text) + 1 ≡ start + (length text - length later) = omega (arith, inside, size, length-take place text) in
-    ap (places_of given start) parts
-    ∙ places_more given start (take place text) after (omega (arith, length-slice_split is_break (drop (place + 1) text)))
-    ∙ (λ i. line_at given start (length (sym ends i)) ∷ places_of (given + 1) (next i) (slice_split is_break (sym rest i)))
+    let size : length later ≡ length text - (position + 1) = ap length rest ∙ length-drop (position + 1) text in
+    let next : start + length (take position text) + 1 ≡ start + (length text - length later) = omega (arith, inside, size, length-take position text) in
+    ap (positions_of given start) parts
+    ∙ positions_more given start (take position text) after (omega (arith, length-slice_split is_break (drop (position + 1) text)))
+    ∙ (λ i. line_at given start (length (sym ends i)) ∷ positions_of (given + 1) (next i) (slice_split is_break (sym rest i)))
 
--- no places are left of an empty text
-places-none : (given start : ℕ) (text : List ℕ) → length text ≡ 0 → places_of given start (slice_split is_break text) ≡ []
-unfolding places_of
-places-none given start [] e = refl
-places-none given start (b ∷ text) e = absurd (omega (arith, e))
+-- no positions are left of an empty text
+positions-none : (given start : ℕ) (text : List ℕ) → length text ≡ 0 → positions_of given start (slice_split is_break text) ≡ []
+unfolding positions_of
+positions-none given start [] e = refl
+positions-none given start (b ∷ text) e = absurd (omega (arith, e))
 
 -- the same, from what the code's test says
-pub places-none_by : (given start : ℕ) (text : List ℕ) (seen : List Line) → true ≡ (length text == 0) → places_of given start (slice_split is_break text) ≡ seen → (seen ≡ []) × (seen ≡ [])
-places-none_by given start text seen test e =
-    let none : seen ≡ [] = sym e ∙ places-none given start text (eqb-true (length text) 0 (sym test)) in (none, none)
+pub positions-none_by : (given start : ℕ) (text : List ℕ) (seen : List Line) → true ≡ (length text == 0) → positions_of given start (slice_split is_break text) ≡ seen → (seen ≡ []) × (seen ≡ [])
+positions-none_by given start text seen test e =
+    let none : seen ≡ [] = sym e ∙ positions-none given start text (eqb-true (length text) 0 (sym test)) in (none, none)

@@ -10,7 +10,7 @@ use Rattle.std.proofs.Math.Nat.{div-div-eq-div-mul}
 use Rattle.plain_text.specs.Decimals.{seconds, six_digits}
 use Rattle.plain_text.specs.Times.{is_letter, is_point, are_digits, micros_of, in_range, shifts, micros_read, read_parts}
 use Rattle.plain_text.proofs.Digits.{digits_model}
-use Rattle.plain_text.proofs.FirstPlaces.{list_all-weaker, list_all-joined, place_none, before_first-found, after_first-found, before_first-none}
+use Rattle.plain_text.proofs.FirstPositions.{list_all-weaker, list_all-joined, position_none, before_first-found, after_first-found, before_first-none}
 use Rattle.plain_text.proofs.Rounding.{digits_after-append, digits_after-is, ceiling_is}
 
 -- the last six digits as bytes
@@ -103,8 +103,8 @@ in_range-small t small = grind (arith, nat_tests)
 shifts-none : (text : List ℕ) → list_all is_time_byte text ≡ true → shifts text ≡ Some (0, 0)
 unfolding shifts
 shifts-none text h =
-    let place : position_or_len is_letter text ≡ length text = place_none is_letter text (list_all-weaker is_time_byte (λ b. not (is_letter b)) time_byte-no_letter text h) in
-    rw place (grind (arith, nat_tests))
+    let position : position_or_len is_letter text ≡ length text = position_none is_letter text (list_all-weaker is_time_byte (λ b. not (is_letter b)) time_byte-no_letter text h) in
+    rw position (grind (arith, nat_tests))
 
 -- digits, a point and six digits
 read_bytes : (whole fraction : List ℕ) → list_all is_ascii_digit whole ≡ true → list_all is_time_byte (whole ++ 46 ∷ fraction) ≡ true → micros_read (whole ++ 46 ∷ fraction) ≡ read_parts whole fraction (Some (0, 0))

@@ -5,7 +5,7 @@ pub mod Times
 pub mod Comments
 pub mod Tokens
 pub mod Lines
-pub mod LinePlaces
+pub mod LinePositions
 pub mod Limits
 pub mod Faults
 pub mod LineFolds

@@ -26,15 +26,15 @@ texts_after free (b ∷ rest) =
 unfoldable pub token_texts : List ℕ → List (List ℕ)
 token_texts line = texts_after true (uncommented line)
 
--- the places of these tokens, where the first byte has this place
+-- the positions of these tokens, where the first byte has this position
 unfoldable pub tokens_after : Bool → ℕ → List ℕ → List Token
-tokens_after free place [] = []
-tokens_after free place (b ∷ rest) =
-    if is_blank b then tokens_after true (place + 1) rest
-    else if stands_alone b then record { start = place; end = place + 1 } ∷ tokens_after true (place + 1) rest
-    else if free then record { start = place; end = place + 1 + position_or_len parts_runs rest } ∷ tokens_after false (place + 1) rest
-    else tokens_after false (place + 1) rest
+tokens_after free position [] = []
+tokens_after free position (b ∷ rest) =
+    if is_blank b then tokens_after true (position + 1) rest
+    else if stands_alone b then record { start = position; end = position + 1 } ∷ tokens_after true (position + 1) rest
+    else if free then record { start = position; end = position + 1 + position_or_len parts_runs rest } ∷ tokens_after false (position + 1) rest
+    else tokens_after false (position + 1) rest
 
--- the places of the tokens of a line
+-- the positions of the tokens of a line
 unfoldable pub tokens : List ℕ → List Token
 tokens line = tokens_after true 0 (uncommented line)

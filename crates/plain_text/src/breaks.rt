@@ -1,25 +1,25 @@
 //! The first line of a text.
 ghost use Rattle.std.specs.Prelude.{◌≡◌, ◌∷◌, ◌+◌, ◌<◌, ◌≤◌, length};
 ghost use Rattle.std.specs.List.{position_or_len};
-ghost use Rattle.plain_text.specs.LinePlaces.{IsFirstLine};
+ghost use Rattle.plain_text.specs.LinePositions.{IsFirstLine};
 ghost use Rattle.plain_text.specs.Lines;
 
 /// The first line, and what stands after its end. Takes no memory.
 pub fn first_line(text: &[u8]) -> (&[u8], &[u8])
     requires { 0 < length text.now }
     ensures first { Lines.lines text.now ≡ result.0.now ∷ Lines.lines result.1.now }
-    ensures place { IsFirstLine text.now result.0.now result.1.now }
+    ensures position { IsFirstLine text.now result.0.now result.1.now }
     ensures within { length result.0.now + length result.1.now ≤ length text.now }
     ensures shorter { length result.1.now < length text.now }
 {
-    let place = first_break(text);
-    if place < text.len() {
-        return (without_return(&text[..place]), &text[place + 1..]);
+    let position = first_break(text);
+    if position < text.len() {
+        return (without_return(&text[..position]), &text[position + 1..]);
     }
-    (text, &text[place..])
+    (text, &text[position..])
 }
 
-/// The place of the first line feed; the length where there is none.
+/// The position of the first line feed; the length where there is none.
 fn first_break(text: &[u8]) -> usize
     ensures value { result ≡ position_or_len Lines.is_break text.now }
     ensures within { result ≤ length text.now }

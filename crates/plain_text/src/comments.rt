@@ -7,11 +7,11 @@ ghost use Rattle.plain_text.specs.Comments;
 pub fn uncommented(line: &str) -> &str
     ensures { result.now ≡ Comments.uncommented line.now }
 {
-    &line[..comment_place(line.as_bytes())]
+    &line[..comment_position(line.as_bytes())]
 }
 
-/// The place of the first `#`; the length where there is none.
-pub(crate) fn comment_place(line: &[u8]) -> usize
+/// The position of the first `#`; the length where there is none.
+pub(crate) fn comment_position(line: &[u8]) -> usize
     ensures value { result ≡ position_or_len (λ b. b == 35) line.now }
     ensures within { result ≤ length line.now }
 {

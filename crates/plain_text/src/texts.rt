@@ -15,8 +15,8 @@ pub fn has_text(texts: &[Text], text: &str) -> bool
     texts.iter().any(|other| text == other.as_str())
 }
 
-/// The first place of a text among these, or how many there are.
-pub fn place_of(texts: &[Text], text: &str) -> usize
+/// The index of a text among these, or how many there are.
+pub fn position_of(texts: &[Text], text: &str) -> usize
     ensures value { result ≡ position_or_len (bytes_eq text.now) texts.now }
     ensures within { result ≤ length texts.now }
 {

@@ -32,10 +32,10 @@ pub fn read_micros(text: &[u8]) -> Result<Micros, TimeFault>
     let Some((right, left)) = shifts(text) else {
         return Err(TimeFault::NotDecimal);
     };
-    let mantissa = &text[..letter_place(text)];
-    let point = point_place(mantissa);
+    let mantissa = &text[..letter_position(text)];
+    let point = point_position(mantissa);
     let before = &mantissa[..point];
-    let after = after_place(mantissa, point);
+    let after = after_position(mantissa, point);
     if !are_digits(before, after) {
         return Err(TimeFault::NotDecimal);
     }
@@ -53,8 +53,8 @@ fn in_range(micros: u128) -> Result<Micros, TimeFault>
     Err(TimeFault::TooLarge)
 }
 
-/// The place of the first `e` or `E`; the length where there is none.
-fn letter_place(text: &[u8]) -> usize
+/// The position of the first `e` or `E`; the length where there is none.
+fn letter_position(text: &[u8]) -> usize
     ensures { result ≡ position_or_len is_letter text.now }
 {
     text.iter()
@@ -62,19 +62,19 @@ fn letter_place(text: &[u8]) -> usize
         .unwrap_or(text.len())
 }
 
-/// The place of the first point; the length where there is none.
-fn point_place(text: &[u8]) -> usize
+/// The position of the first point; the length where there is none.
+fn point_position(text: &[u8]) -> usize
     ensures { result ≡ position_or_len is_point text.now }
 {
     text.iter().position(|b| *b == b'.').unwrap_or(text.len())
 }
 
-/// What stands after a place.
-fn after_place(text: &[u8], place: usize) -> &[u8]
-    ensures { result.now ≡ drop (place + 1) text.now }
+/// What stands after a position.
+fn after_position(text: &[u8], position: usize) -> &[u8]
+    ensures { result.now ≡ drop (position + 1) text.now }
 {
-    if place < text.len() {
-        return &text[place + 1..];
+    if position < text.len() {
+        return &text[position + 1..];
     }
     &text[text.len()..]
 }
@@ -100,9 +100,9 @@ fn shifts(text: &[u8]) -> Option<(usize, usize)>
     ensures value { result ≡ Times.shifts text.now }
     ensures small { IfSome result (λ s. (s.0 < 1000) × (s.1 < 1000)) }
 {
-    let place = letter_place(text);
-    if place < text.len() {
-        return power_shifts(&text[place + 1..]);
+    let position = letter_position(text);
+    if position < text.len() {
+        return power_shifts(&text[position + 1..]);
     }
     Some((0, 0))
 }

@@ -4,12 +4,12 @@ ghost use Rattle.std.specs.List.{position_or_len};
 ghost use Rattle.plain_text.specs.Tokens;
 ghost use Rattle.plain_text.specs.Words;
 
-use crate::comments::comment_place;
+use crate::comments::comment_position;
 use crate::words::is_blank;
 use objective::Memory;
 use std::alloc::Global;
 
-/// The place of a token in its line.
+/// The position of a token in its line.
 #[derive(Clone, Copy, Debug, PartialEq, Eq)]
 pub struct Token {
     /// The index of its first byte.
@@ -24,19 +24,22 @@ pub struct Token {
 pub fn tokens(alloc: Global, line: &[u8]) -> Result<Vec<Token>, Memory>
     ensures { IfOk result (λ v. v.items ≡ Tokens.tokens line.now) }
 {
-    let text = &line[..comment_place(line)];
+    let text = &line[..comment_position(line)];
     let mut found = Vec::new(alloc);
     let mut free = true;
-    for place in 0..text.len() {
-        let byte = text[place];
+    for position in 0..text.len() {
+        let byte = text[position];
         if stands_alone(byte) {
             found.push(Token {
-                start: place,
-                end: place + 1,
+                start: position,
+                end: position + 1,
             })?;
         } else if begins_run(free, byte) {
-            let end = place + 1 + run_length(&text[place + 1..]);
-            found.push(Token { start: place, end })?;
+            let end = position + 1 + run_length(&text[position + 1..]);
+            found.push(Token {
+                start: position,
+                end,
+            })?;
         }
         free = parts_runs(byte);
     }

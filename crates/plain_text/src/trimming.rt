@@ -33,7 +33,7 @@ fn size_without_end(bytes: &[u8]) -> usize
     size
 }
 
-/// The place of the first blank; the length where there is none.
+/// The position of the first blank; the length where there is none.
 fn first_blank(bytes: &[u8]) -> usize
     ensures value { result ≡ position_or_len Words.is_blank bytes.now }
     ensures within { result ≤ length bytes.now }

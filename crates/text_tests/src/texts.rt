@@ -3,7 +3,7 @@ use crate::checks::check;
 use objective::{Memory, Micros};
 use plain_text::{
     Items, Text, TimeFault, after_prefix, after_word, all_digits, end_trimmed, first_word,
-    front_trimmed, has_text, lines, numbered_lines, parted, pieces, place_of, push_seconds,
+    front_trimmed, has_text, lines, numbered_lines, parted, pieces, position_of, push_seconds,
     read_count, read_micros, seconds_text, texts_differ, token_texts, tokens, trimmed, uncommented,
 };
 use std::alloc::Global;
@@ -201,7 +201,7 @@ fn parts_and_counts(rt: HostRuntime) {
 
 /// Whether b is among these texts, c is the third, and they differ.
 fn are_listed(alloc: Global, texts: &[Text]) -> Result<bool, Memory> {
-    let placed = has_text(texts, "b") && place_of(texts, "c") == 2;
+    let placed = has_text(texts, "b") && position_of(texts, "c") == 2;
     Ok(placed && texts_differ(alloc, texts)?)
 }
 

@@ -2,11 +2,11 @@ use Rattle.std.proofs.Common.{rules, tests}
 use Rattle.std.proofs.lemmas.Iterator.{YieldsList-from_slice}
 use Rattle.std.proofs.lemmas.Iterator.Search.{position_from_yields_List}
 use Rattle.plain_text.specs.Lines.{is_break}
-use Rattle.plain_text.proofs.Places.{place_or_length}
+use Rattle.plain_text.proofs.Positions.{position_or_length}
 use Rattle.plain_text.proofs.breaks.first_break.Goals as goal
 
 pub returns-clause-value : goal.returns-clause-value
 returns-clause-value c =
-    place_or_length is_break c.args.text.now c.position.result c.unwrap_or.result
+    position_or_length is_break c.args.text.now c.position.result c.unwrap_or.result
     (position_from_yields_List is_break _ _ _ c.position.ensures.ran (YieldsList-from_slice c.args.text.now cc) (λ x b q k. search (rules, tests)))
     c.unwrap_or.ensures

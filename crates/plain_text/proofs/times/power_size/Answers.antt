@@ -1,5 +1,5 @@
 use Rattle.std.proofs.Common.{arith}
-use Rattle.plain_text.proofs.Places.{count_small}
+use Rattle.plain_text.proofs.Positions.{count_small}
 use Rattle.plain_text.proofs.times.power_size.Goals as goal
 
 pub returns-in-Some-clause-small : goal.returns-in-Some-clause-small

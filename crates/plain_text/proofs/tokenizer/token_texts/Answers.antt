@@ -2,7 +2,7 @@ use Rattle.std.proofs.Common.{◌≡◌, ◌∙◌, ap, map}
 use Rattle.std.proofs.lemmas.List.{take_all}
 use Rattle.std.proofs.lemmas.List.Elements.{All-same}
 use Rattle.plain_text.specs.Tokens.{tokens}
-use Rattle.plain_text.proofs.TokenPlaceLemmas.{IsTokenCut, tokens_cut, text_at, texts_of_places}
+use Rattle.plain_text.proofs.TokenPositionLemmas.{IsTokenCut, tokens_cut, text_at, texts_of_positions}
 use Rattle.plain_text.proofs.tokenizer.token_texts.Goals as goal
 
 pub range-requires : goal.range-requires
@@ -19,4 +19,4 @@ returns c =
     let items = c.deref-token-items.result.now in
     c.loop-token.invariant
     ∙ ap (map (text_at line)) (take_all c.loop-token.token-index items c.loop-token-test.false ∙ c.deref-token-items.ensures.value ∙ c.in_ok-tokens.ensures ∙ ap tokens c.as_bytes.ensures.value)
-    ∙ texts_of_places line
+    ∙ texts_of_positions line

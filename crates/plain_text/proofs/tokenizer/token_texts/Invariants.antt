@@ -1,5 +1,5 @@
 use Rattle.std.proofs.Common.{◌≡◌, map, take}
-use Rattle.plain_text.proofs.TokenPlaceLemmas.{text_at}
+use Rattle.plain_text.proofs.TokenPositionLemmas.{text_at}
 use Rattle.plain_text.proofs.tokenizer.token_texts.Given as goal
 
 -- the texts of the tokens so far

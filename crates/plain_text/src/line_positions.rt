@@ -1,12 +1,12 @@
-//! The places of a text's lines.
+//! The positions of a text's lines.
 ghost use Rattle.std.specs.Prelude.{◌≡◌, ◌^◌, ◌<◌, length};
 ghost use Rattle.std.specs.Iterator.{YieldsFirst, item_count};
-ghost use Rattle.plain_text.specs.LinePlaces.{line_places};
+ghost use Rattle.plain_text.specs.LinePositions.{line_positions};
 
 use crate::breaks::first_line;
 use std::marker::Model;
 
-/// The place of a line in its text.
+/// The position of a line in its text.
 #[derive(Clone, Copy, Debug, PartialEq, Eq)]
 pub struct Line {
     /// Its number, from 1.
@@ -28,13 +28,13 @@ pub struct TextLines<'a> {
 impl<'a> Model for TextLines<'a> {
     ghost use Rattle.std.specs.Prelude.{List, ◌+◌, ◌^◌, ◌<◌, ◌≤◌, length};
     ghost use Rattle.std.specs.List.{slice_split};
-    ghost use Rattle.plain_text.specs.LinePlaces.{places_of};
+    ghost use Rattle.plain_text.specs.LinePositions.{positions_of};
     ghost use Rattle.plain_text.specs.Lines.{is_break};
-    ghost use Rattle.plain_text.specs.declared.line_places.Line.{Line};
+    ghost use Rattle.plain_text.specs.declared.line_positions.Line.{Line};
 
     ghost Value = { List Line };
 
-    ghost view = { λ l. places_of l.given l.start (slice_split is_break l.rest.now) };
+    ghost view = { λ l. positions_of l.given l.start (slice_split is_break l.rest.now) };
 
     ghost invariant = { λ l. (l.given ≤ l.start) × (l.start + length l.rest.now < 2 ^ 32) };
 }
@@ -43,7 +43,7 @@ impl<'a> Model for TextLines<'a> {
 /// carriage return directly in front of it; the last line may have no end. Takes no memory.
 pub fn lines(text: &[u8]) -> TextLines<'_>
     requires { length text.now < 2 ^ 32 }
-    ensures { result ≡ line_places text.now }
+    ensures { result ≡ line_positions text.now }
 {
     TextLines {
         rest: text,

@@ -1,4 +1,4 @@
--- Places of bytes, and what a text is read as.
+-- Positions of bytes, and what a text is read as.
 use Rattle.std.proofs.Common.{ℕ, ◌≡◌, ◌<◌, ◌≤◌, ◌^◌, Bool, true, false, cond, not, List, length, min, position, nat_lt, Option, Some, None, refl, sym, ap, ◌∙◌, arith}
 use Rattle.std.proofs.lemmas.Bool.Decides.{nat_tests}
 use Rattle.std.proofs.lemmas.List.Sums.{prefix_len-le-length}
@@ -11,9 +11,9 @@ use Rattle.plain_text.specs.Decimals.{is_count, count_of}
 use Rattle.plain_text.specs.Times.{whole, fraction, shifts, are_digits, micros_of, in_range, read_parts, micros_read}
 use Rattle.plain_text.proofs.Digits.{digits_model}
 
--- the first place, or else the length
-pub place_or_length : (p : ℕ → Bool) (xs : List ℕ) (r : Option ℕ) (n : ℕ) → r ≡ position p xs → n ≡ unwrap_or r (length xs) → n ≡ position_or_len p xs
-place_or_length p xs r n first e = e ∙ ap (λ o. unwrap_or o (length xs)) first ∙ by (nat_lt (position_or_len p xs) (length xs)) refl
+-- the first position, or else the length
+pub position_or_length : (p : ℕ → Bool) (xs : List ℕ) (r : Option ℕ) (n : ℕ) → r ≡ position p xs → n ≡ unwrap_or r (length xs) → n ≡ position_or_len p xs
+position_or_length p xs r n first e = e ∙ ap (λ o. unwrap_or o (length xs)) first ∙ by (nat_lt (position_or_len p xs) (length xs)) refl
   where
     by : (b : Bool) → b ≡ nat_lt (position_or_len p xs) (length xs) → unwrap_or (cond b (Some (position_or_len p xs)) None) (length xs) ≡ position_or_len p xs
     by true t = refl

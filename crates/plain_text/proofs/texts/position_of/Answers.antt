@@ -1,7 +1,7 @@
 use Rattle.std.proofs.Common.{[], ◌≡◌, sym, ◌∙◌, ap, get_or, bytes_eq, arith, length}
 use Rattle.std.proofs.lemmas.List.{get_or_read}
 use Rattle.std.proofs.lemmas.List.Sums.{position_or_len_is}
-use Rattle.plain_text.proofs.texts.place_of.Goals as goal
+use Rattle.plain_text.proofs.texts.position_of.Goals as goal
 
 pub returns-then-eq-clause-value : goal.returns-then-eq-clause-value
 returns-then-eq-clause-value c =

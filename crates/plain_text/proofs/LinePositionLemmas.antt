@@ -1,12 +1,12 @@
--- The lines of a text are what stands at their places.
+-- The lines of a text are what stands at their positions.
 use Rattle.std.specs.Prelude.{ℕ, ◌≡◌, ◌≤◌, ◌+◌, ◌-◌, Bool, true, false, ◌==◌, List, [], ◌∷◌, ◌++◌, length, map, take, drop, get_or, refl}
 use Rattle.std.specs.List.{slice_split, join_with_byte}
 use Rattle.std.proofs.Common.{ap, sym, ◌∙◌, arith, cond}
 use Rattle.std.proofs.lemmas.List.{length-append, length-drop, length-take, drop-drop, drop_at, take_all, take-append-le}
 use Rattle.std.proofs.lemmas.List.Splits.{join_with_byte-slice_split}
 use Rattle.std.proofs.Math.Seq.{take-append_seam}
-use Rattle.plain_text.specs.declared.line_places.Line.{Line}
-use Rattle.plain_text.specs.LinePlaces.{places_of, line_places}
+use Rattle.plain_text.specs.declared.line_positions.Line.{Line}
+use Rattle.plain_text.specs.LinePositions.{positions_of, line_positions}
 use Rattle.plain_text.specs.Lines.{is_break, without_return, lines_among, numbered_from, numbered_lines}
 
 -- a line's number and its bytes
@@ -24,8 +24,8 @@ line_taken part rest = by (get_or part (length part - 1) 0 == 13)
         ap (λ k. take k (part ++ rest)) size ∙ take-append-le (length part - 1) part rest (omega arith)
 
 module _ (text : List ℕ) where
-  numbered_of : (given start : ℕ) (parts : List (List ℕ)) → start ≤ length text → drop start text ≡ join_with_byte 10 parts → map (numbered_bytes text) (places_of given start parts) ≡ numbered_from (given + 1) (lines_among parts)
-  unfolding places_of numbered_from lines_among
+  numbered_of : (given start : ℕ) (parts : List (List ℕ)) → start ≤ length text → drop start text ≡ join_with_byte 10 parts → map (numbered_bytes text) (positions_of given start parts) ≡ numbered_from (given + 1) (lines_among parts)
+  unfolding positions_of numbered_from lines_among
   numbered_of given start [] h e = refl
   numbered_of given start ([] ∷ []) h e = refl
   numbered_of given start ((b ∷ part) ∷ []) h e =
@@ -43,7 +43,7 @@ module _ (text : List ℕ) where
       let others = numbered_of (given + 1) (start + length part + 1) (next ∷ parts) (omega (arith, total)) after in
       (λ i. (given + 1, first i) ∷ others i)
 
-  -- the numbered lines of a text are what stands at the places of its lines
-  pub numbered_lines-places : numbered_lines text ≡ map (numbered_bytes text) (line_places text)
+  -- the numbered lines of a text are what stands at the positions of its lines
+  pub numbered_lines-positions : numbered_lines text ≡ map (numbered_bytes text) (line_positions text)
   unfolding numbered_lines
-  numbered_lines-places = sym (numbered_of 0 0 (slice_split is_break text) (omega arith) (sym (join_with_byte-slice_split 10 text)))
+  numbered_lines-positions = sym (numbered_of 0 0 (slice_split is_break text) (omega arith) (sym (join_with_byte-slice_split 10 text)))

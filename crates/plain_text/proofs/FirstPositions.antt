@@ -21,28 +21,28 @@ list_all-joined p (x ∷ xs) ys h k =
     and_from (p x) (list_all p (xs ++ ys)) both.0 (list_all-joined p xs ys both.1 k)
 
 -- where none passes
-pub place_none : (p : ℕ → Bool) (xs : List ℕ) → list_all (λ b. not (p b)) xs ≡ true → position_or_len p xs ≡ length xs
-place_none p [] h = refl
-place_none p (x ∷ xs) h =
+pub position_none : (p : ℕ → Bool) (xs : List ℕ) → list_all (λ b. not (p b)) xs ≡ true → position_or_len p xs ≡ length xs
+position_none p [] h = refl
+position_none p (x ∷ xs) h =
     let both = and_parts (not (p x)) (list_all (λ b. not (p b)) xs) h in
-    rw (not-true (p x) both.0) (omega (arith, place_none p xs both.1))
+    rw (not-true (p x) both.0) (omega (arith, position_none p xs both.1))
 
 -- the first that passes
-place_first : (p : ℕ → Bool) (xs : List ℕ) (c : ℕ) (ys : List ℕ) → list_all (λ b. not (p b)) xs ≡ true → p c ≡ true → position_or_len p (xs ++ c ∷ ys) ≡ length xs
-place_first p [] c ys h e = rw e refl
-place_first p (x ∷ xs) c ys h e =
+position_first : (p : ℕ → Bool) (xs : List ℕ) (c : ℕ) (ys : List ℕ) → list_all (λ b. not (p b)) xs ≡ true → p c ≡ true → position_or_len p (xs ++ c ∷ ys) ≡ length xs
+position_first p [] c ys h e = rw e refl
+position_first p (x ∷ xs) c ys h e =
     let both = and_parts (not (p x)) (list_all (λ b. not (p b)) xs) h in
-    rw (not-true (p x) both.0) (omega (arith, place_first p xs c ys both.1 e))
+    rw (not-true (p x) both.0) (omega (arith, position_first p xs c ys both.1 e))
 
 -- what stands before and after it
 pub before_first-found : (p : ℕ → Bool) (xs : List ℕ) (c : ℕ) (ys : List ℕ) → list_all (λ b. not (p b)) xs ≡ true → p c ≡ true → before_first p (xs ++ c ∷ ys) ≡ xs
-before_first-found p xs c ys h e = rw (place_first p xs c ys h e) (take-append_seam xs (c ∷ ys))
+before_first-found p xs c ys h e = rw (position_first p xs c ys h e) (take-append_seam xs (c ∷ ys))
 
 pub after_first-found : (p : ℕ → Bool) (xs : List ℕ) (c : ℕ) (ys : List ℕ) → list_all (λ b. not (p b)) xs ≡ true → p c ≡ true → after_first p (xs ++ c ∷ ys) ≡ ys
 after_first-found p xs c ys h e =
     let longer : length (xs ++ c ∷ []) ≡ length xs + 1 = omega (arith, length-append xs (c ∷ [])) in
-    rw (place_first p xs c ys h e, ← longer) (front_rest (xs ++ c ∷ ys) (xs ++ c ∷ []) ys (sym (append_assoc xs (c ∷ []) ys)))
+    rw (position_first p xs c ys h e, ← longer) (front_rest (xs ++ c ∷ ys) (xs ++ c ∷ []) ys (sym (append_assoc xs (c ∷ []) ys)))
 
 -- all of a list in which none passes
 pub before_first-none : (p : ℕ → Bool) (xs : List ℕ) → list_all (λ b. not (p b)) xs ≡ true → before_first p xs ≡ xs
-before_first-none p xs h = rw (place_none p xs h) (take_all (length xs) xs (omega arith))
+before_first-none p xs h = rw (position_none p xs h) (take_all (length xs) xs (omega arith))

@@ -1,5 +1,5 @@
 use Rattle.std.proofs.Common.{ℕ, ◌≡◌, ◌<◌, [], false, get_or, bytes_eq}
-use Rattle.plain_text.proofs.texts.place_of.Given as goal
+use Rattle.plain_text.proofs.texts.position_of.Given as goal
 
 -- none of the texts so far is this one
 abbrev pub invariant-loop-i : goal.invariant-loop-i
