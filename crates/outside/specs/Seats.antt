@@ -1,5 +1,5 @@
 -- What contracts see of a seat in memory with a script.
-use Rattle.std.specs.Prelude.{true, false, [], Some, Result, Ok, Err}
+use Rattle.std.specs.Prelude.{ℕ, true, false, List, [], Some, Result, Ok, Err}
 use Rattle.outside.specs.Courses.{after_start}
 use Rattle.outside.specs.MemoryChildren.{first_child}
 use Rattle.outside.specs.ToldStates.{SpawnerTold}
@@ -10,6 +10,7 @@ use Rattle.outside.specs.declared.faults.Fault.TheVariants.{Failed, Memory}
 pub record Seat : Type 0 where
   pub told : SpawnerTold
   pub course : Course  -- how far it is with its script
+  pub left : List ℕ  -- what its last child leaves behind
 
 -- a seat that has started nothing
 abbrev pub told_first : SpawnerTold

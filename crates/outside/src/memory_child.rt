@@ -1,6 +1,6 @@
 //! The child of a seat in memory.
-ghost use Rattle.std.specs.Prelude.{◌≡◌, ◌≤◌, true, false};
-ghost use Rattle.outside.specs.MemoryChildren.{first_child, child_after_start, child_after_look};
+ghost use Rattle.std.specs.Prelude.{◌≡◌, ◌≤◌, true, false, IsTrue};
+ghost use Rattle.outside.specs.MemoryChildren.{first_child, child_after_start, child_after_look, child_after_kill, left_by};
 
 use crate::faults::{Fail, Poll};
 use crate::last_runs::LastRuns;
@@ -9,19 +9,25 @@ use std::alloc::Global;
 use std::marker::Model;
 use wrapper_lines::Run;
 
-/// The child of a seat in memory: its run, what it writes, whether it runs and whether it has
-/// ended, and how many starts and looks have failed. No call takes memory.
+/// What a killed child leaves behind.
+const KILLED_LINE: &str = "Result for ParamILS: TIMEOUT, 0, 0, 0, 0\n";
+
+/// The child of a seat in memory: its run, what it writes, whether it runs, has ended or was
+/// killed, and how many starts and looks have failed. No call takes memory.
+///
+/// Its type keeps that no output is held of a killed child.
 #[derive(Drop)]
 pub struct MemoryChild {
     runs: LastRuns,
     output: Text,
     is_idle: bool,
     is_held: bool,
+    is_killed: bool,
     faults: u64,
 }
 
 impl Model for MemoryChild {
-    ghost use Rattle.std.specs.Prelude.{None};
+    ghost use Rattle.std.specs.Prelude.{◌≡◌, ◌&&◌, false, None};
     ghost use Rattle.outside.specs.MemoryChildren.{ChildState};
 
     ghost Value = { ChildState };
@@ -37,7 +43,10 @@ impl Model for MemoryChild {
         faults = c.faults;
       };
       output = c.output;
+      killed = c.is_killed;
     } };
+
+    ghost invariant = { λ c. (c.is_held && c.is_killed) ≡ false };
 }
 
 impl MemoryChild {
@@ -50,6 +59,7 @@ impl MemoryChild {
             output: Text::new(String::new(alloc)),
             is_idle: true,
             is_held: false,
+            is_killed: false,
             faults: 0,
         }
     }
@@ -71,6 +81,7 @@ impl MemoryChild {
         self.output = output;
         self.is_idle = has_failed;
         self.is_held = false;
+        self.is_killed = false;
         if has_failed {
             self.faults = self.faults.saturating_add(1);
         }
@@ -84,6 +95,7 @@ impl MemoryChild {
     {
         self.is_idle = !matches!(found, Ok(Poll::Pending));
         self.is_held = matches!(found, Ok(Poll::Ended));
+        self.is_killed = false;
         if found.is_err() {
             self.runs.fail();
             self.faults = self.faults.saturating_add(1);
@@ -91,10 +103,23 @@ impl MemoryChild {
         found
     }
 
-    /// What the child writes that was started last.
-    pub fn output(&self) -> &[u8]
-        ensures { result.now ≡ self.now.output }
+    /// The child was killed. What it leaves behind is the line of a timeout, which no look shows.
+    pub fn kill(&mut self)
+        ensures { self.new ≡ child_after_kill self.old }
     {
+        self.is_idle = true;
+        self.is_held = false;
+        self.is_killed = true;
+    }
+
+    /// What the child leaves behind that was started last: what it writes, unless it was killed.
+    pub fn output(&self) -> &[u8]
+        ensures left { result.now ≡ left_by self.now }
+        ensures held { IsTrue self.now.told.held → result.now ≡ self.now.output }
+    {
+        if self.is_killed {
+            return KILLED_LINE.as_bytes();
+        }
         self.output.as_str().as_bytes()
     }
 

@@ -28,7 +28,7 @@ pub struct TableSeat<T: Table> {
 
 impl<T: Table> Model for TableSeat<T> {
     ghost use Rattle.std.specs.Prelude.{Some};
-    ghost use Rattle.outside.specs.MemoryChildren.{Shows};
+    ghost use Rattle.outside.specs.MemoryChildren.{Shows, left_by};
     ghost use Rattle.outside.specs.Seats.{Seat};
 
     ghost Value = { Seat };
@@ -36,6 +36,7 @@ impl<T: Table> Model for TableSeat<T> {
     ghost view = { λ s. record {
       told = record s.child.told { started = Some s.started.items; folders = Some s.folders.items };
       course = s.course;
+      left = left_by s.child;
     } };
 
     ghost invariant = { λ s. Shows T.outcome s.child };
@@ -77,6 +78,13 @@ impl<T: Table> TableSeat<T> {
     {
         self.child.faults()
     }
+
+    /// What the last child leaves behind, whether it is to be read or not.
+    pub fn left(&self) -> &[u8]
+        ensures { result.now ≡ self.now.left }
+    {
+        self.child.output()
+    }
 }
 
 impl<T: Table> Spawner for TableSeat<T> {
@@ -85,6 +93,7 @@ impl<T: Table> Spawner for TableSeat<T> {
     ghost use Rattle.outside.specs.Counts.{count_after};
     ghost use Rattle.wrapper_lines.specs.Runs.{AreWordsOf};
     ghost use Rattle.outside.specs.Courses.{after_look, is_bad_start, is_bad_look, is_ended};
+    ghost use Rattle.outside.specs.MemoryChildren.{killed_line};
     ghost use Rattle.outside.specs.Seats.{course_after};
 
     ghost told = { λ s. s.told };
@@ -145,9 +154,11 @@ impl<T: Table> Spawner for TableSeat<T> {
         self.child.output()
     }
 
+    /// The line of a timeout is left behind, whatever the run comes to.
     fn kill(&mut self)
         requires { self.old.told.idle ≡ false }
         ensures course { self.new.course ≡ self.old.course }
+        ensures left { self.new.left ≡ killed_line }
         ensures idle { IsTrue self.new.told.idle }
         ensures held { self.new.told.held ≡ false }
         ensures started { self.new.told.started ≡ self.old.told.started }
@@ -155,7 +166,7 @@ impl<T: Table> Spawner for TableSeat<T> {
         ensures failed_run { self.new.told.failed_run ≡ self.old.told.failed_run }
         ensures faults { self.new.told.faults ≡ self.old.told.faults }
     {
-        self.child.clear();
+        self.child.kill();
     }
 
     fn pause(&mut self)

@@ -141,7 +141,10 @@ fn is_solved(seat: &mut TableSeat<Steady>, cutoff: Micros) -> bool
     }
 }
 
-/// Whether a child is pending at two looks; it is killed then.
+/// What a killed child leaves behind.
+const KILLED_LINE: &[u8] = b"Result for ParamILS: TIMEOUT, 0, 0, 0, 0\n";
+
+/// Whether a child is pending at two looks; it is killed then, and leaves no line of its own run.
 fn is_killed(seat: &mut TableSeat<Steady>, words: &[Text], run: &Run) -> bool
     requires idle { IsTrue seat.old.told.idle }
     requires words { AreWordsOf (codes ".") words.now run.now }
@@ -151,7 +154,7 @@ fn is_killed(seat: &mut TableSeat<Steady>, words: &[Text], run: &Run) -> bool
         return false;
     }
     seat.kill();
-    true
+    seat.left() == KILLED_LINE
 }
 
 /// Whether the kill of the first child is no fault, and the second child ends.

@@ -138,7 +138,7 @@ impl Spawner for PlannedSeat {
     }
 
     fn kill(&mut self) {
-        self.child.clear();
+        self.child.kill();
     }
 
     /// Lets other threads go on.

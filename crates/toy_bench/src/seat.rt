@@ -120,7 +120,7 @@ impl Spawner for ToySeat {
     }
 
     fn kill(&mut self) {
-        self.child.clear();
+        self.child.kill();
     }
 
     fn pause(&mut self)
