@@ -5,6 +5,7 @@ pub mod Ledgers
 pub mod Boards
 pub mod Events
 pub mod BoardVerdicts
+pub mod UnwantedRuns
 pub mod Steps
 pub mod Replays
 pub mod Numbering

@@ -33,7 +33,8 @@ use Rattle.board_steps.specs.Boards.{PlainBoard}
 use Rattle.board_steps.specs.Ledgers.{take_event, unmarked, lost_ahead_after}
 use Rattle.board_steps.specs.BoardVerdicts.{asked_cell, wishes_on, board_verdict_of}
 use Rattle.board_steps.specs.ProblemRuns.{key_of}
-use Rattle.board_steps.specs.Tickets.{same_cell, has_number, without, found_in, marked, marked_if, mark_events, has_ticket, has_cell, NeededRun, is_unwanted_beside}
+use Rattle.board_steps.specs.Tickets.{same_cell, has_number, without, found_in, marked, marked_if, mark_events, has_ticket, has_cell}
+use Rattle.board_steps.specs.UnwantedRuns.{is_unwanted}
 
 -- the wishes are the same
 abbrev pub same_wish : Wish → Wish → Bool
@@ -182,30 +183,13 @@ module _ (shown : Rules → List Reply → View) where
   unfoldable pub after_take : PlainBoard → PlainBoard
   after_take b = with_taken b (taken_on b)
 
-  -- the run of the present ask at a place, which is needed under a cutoff
-  abbrev pub needed_run : PlainBoard → ℕ → ℕ → NeededRun
-  needed_run b place cutoff = record { cell = asked_cell shown b place; cutoff = cutoff }
-
-  -- the run of a live ticket isn't wanted, by where the board stands
-  abbrev pub is_unwanted_by : PlainBoard → BoardVerdict → LiveTicket → Bool
-  is_unwanted_by b board_verdict.Stopped l = true
-  is_unwanted_by b board_verdict.Aborted l = true
-  is_unwanted_by b (board_verdict.Open (verdict.Reply r)) l = false
-  is_unwanted_by b (board_verdict.Open (verdict.Need place cutoff)) l = is_unwanted_beside b.wishes (needed_run b place cutoff.0) l
-  is_unwanted_by b (board_verdict.Open (verdict.Aborted place)) l = false
-  is_unwanted_by b (board_verdict.Open verdict.Ended) l = true
-
-  -- the run of a live ticket isn't wanted
-  unfoldable pub is_unwanted : PlainBoard → LiveTicket → Bool
-  is_unwanted b l = is_unwanted_by b (board_verdict_of shown b) l
-
   -- a board after marking
   unfoldable pub after_mark : PlainBoard → PlainBoard
-  after_mark b = marked_board b (is_unwanted b)
+  after_mark b = marked_board b (is_unwanted shown b)
 
   -- how many live tickets are newly marked
   unfoldable pub marked_on : PlainBoard → ℕ
-  marked_on b = length (mark_events (is_unwanted b) b.live)
+  marked_on b = length (mark_events (is_unwanted shown b) b.live)
 
 -- what an advance comes to, by where the board stood
 abbrev pub advanced_to : BoardVerdict → Advanced

@@ -103,21 +103,3 @@ has_ticket live cell = list_any (λ l. same_cell cell l.ticket.cell) live
 -- a cell is among these
 unfoldable pub has_cell : List Cell → Cell → Bool
 has_cell cells cell = list_any (same_cell cell) cells
-
--- the cell is wished for
-abbrev pub is_wished : List Wish → Cell → Bool
-is_wished wishes cell = list_any (λ w. same_cell cell w.cell) wishes
-
--- a run that is needed
-pub record NeededRun : Type 0 where
-  pub cell : Cell
-  pub cutoff : ℕ
-
--- the run of a live ticket isn't wanted beside a needed one
-unfoldable pub is_unwanted_beside : List Wish → NeededRun → LiveTicket → Bool
-is_unwanted_beside wishes needed l = is_ahead l.ticket.kind
-    && (if same_cell needed.cell l.ticket.cell then nat_lt needed.cutoff l.ticket.run.cutoff.0 else not (is_wished wishes l.ticket.cell))
-
--- all runs are unwanted
-abbrev pub all_unwanted : LiveTicket → Bool
-all_unwanted l = true

@@ -3,13 +3,14 @@ ghost use Rattle.std.specs.Prelude.{◌≡◌, ◌+◌, ◌-◌, ◌<◌, ◌≤
 ghost use Rattle.std.specs.Vec.{vec_len, vec_capacity};
 ghost use Rattle.std.specs.List.{list_any, sum_by};
 ghost use Rattle.board_steps.specs.Tickets;
+ghost use Rattle.board_steps.specs.UnwantedRuns;
 ghost use Rattle.board_steps.specs.Ledgers;
 ghost use Rattle.board_steps.specs.Ledgers.{events_of, events_kept};
 
 use crate::answers::Standing;
 use crate::events::Event;
-use crate::needed::Needed;
 use crate::tickets::{Kind, LiveTicket, Ticket};
+use crate::unwanted_runs::{Needed, is_unwanted_beside};
 use objective::Memory;
 use predictor::Wish;
 use run_cache::Cell;
@@ -65,27 +66,6 @@ pub fn has_cell(cells: &[Cell], cell: &Cell) -> bool
     cells.iter().any(|other| cell == other)
 }
 
-/// Whether a cell is wished for.
-fn is_wished(wishes: &[Wish], cell: &Cell) -> bool
-    ensures { result ≡ Tickets.is_wished wishes.now cell.now }
-{
-    wishes.iter().any(|w| *cell == w.cell)
-}
-
-/// Whether the run of a live ticket isn't wanted beside a needed one.
-#[tactic(auto, unfolding(crate::specs::Tickets::is_unwanted_beside))]
-fn is_unwanted_beside(l: &LiveTicket, wishes: &[Wish], needed: &Needed<'_>) -> bool
-    ensures { result ≡ Tickets.is_unwanted_beside wishes.now needed.now l.now }
-{
-    if l.ticket.kind != Kind::Ahead {
-        return false;
-    }
-    if needed.is_of(&l.ticket.cell) {
-        return needed.is_below(l.ticket.run.cutoff);
-    }
-    !is_wished(wishes, &l.ticket.cell)
-}
-
 /// The index of the live ticket with a number, or how many there are.
 fn position_of(live: &[LiveTicket], number: u64) -> usize
     ensures value { result ≡ Tickets.position_of live.now number }
@@ -136,8 +116,8 @@ fn mark_live(live: &mut Vec<LiveTicket>)
 /// Marks a live ticket.
 fn mark(l: &mut LiveTicket, journal: &mut Vec<Event>)
     requires { length journal.old.items + events_of l.old ≤ vec_capacity journal.old }
-    ensures marked { l.new ≡ Tickets.marked_if Tickets.all_unwanted l.old }
-    ensures journal { journal.new.items ≡ journal.old.items ++ Tickets.mark_event Tickets.all_unwanted l.old }
+    ensures marked { l.new ≡ Tickets.marked_if UnwantedRuns.all_unwanted l.old }
+    ensures journal { journal.new.items ≡ journal.old.items ++ Tickets.mark_event UnwantedRuns.all_unwanted l.old }
     ensures room { length journal.new.items + events_of l.new ≤ length journal.old.items + events_of l.old }
     ensures capacity { vec_capacity journal.new ≡ vec_capacity journal.old }
 {
@@ -153,8 +133,8 @@ fn mark(l: &mut LiveTicket, journal: &mut Vec<Event>)
 /// Marks a live ticket where it isn't wanted.
 fn mark_unwanted(l: &mut LiveTicket, journal: &mut Vec<Event>, wishes: &[Wish], needed: &Needed<'_>)
     requires { length journal.old.items + events_of l.old ≤ vec_capacity journal.old }
-    ensures marked { l.new ≡ Tickets.marked_if (Tickets.is_unwanted_beside wishes.now needed.now) l.old }
-    ensures journal { let is_unwanted = Tickets.is_unwanted_beside wishes.now needed.now in
+    ensures marked { l.new ≡ Tickets.marked_if (UnwantedRuns.is_unwanted_beside wishes.now needed.now) l.old }
+    ensures journal { let is_unwanted = UnwantedRuns.is_unwanted_beside wishes.now needed.now in
         journal.new.items ≡ journal.old.items ++ Tickets.mark_event is_unwanted l.old }
     ensures room { length journal.new.items + events_of l.new ≤ length journal.old.items + events_of l.old }
     ensures capacity { vec_capacity journal.new ≡ vec_capacity journal.old }
@@ -172,9 +152,9 @@ fn mark_each_unwanted(
     needed: &Needed<'_>,
 )
     requires { length journal.old.items + sum_by events_of live.old.items ≤ vec_capacity journal.old }
-    ensures marked { let is_unwanted = Tickets.is_unwanted_beside wishes.now needed.now in
+    ensures marked { let is_unwanted = UnwantedRuns.is_unwanted_beside wishes.now needed.now in
         live.new.items ≡ map (Tickets.marked_if is_unwanted) live.old.items }
-    ensures journal { let is_unwanted = Tickets.is_unwanted_beside wishes.now needed.now in
+    ensures journal { let is_unwanted = UnwantedRuns.is_unwanted_beside wishes.now needed.now in
         journal.new.items ≡ journal.old.items ++ Tickets.mark_events is_unwanted live.old.items }
     ensures room { length journal.new.items + sum_by events_of live.new.items
         ≤ length journal.old.items + sum_by events_of live.old.items }
@@ -188,8 +168,8 @@ fn mark_each_unwanted(
 /// Marks each of these.
 fn mark_each(live: &mut Vec<LiveTicket>, journal: &mut Vec<Event>)
     requires { length journal.old.items + sum_by events_of live.old.items ≤ vec_capacity journal.old }
-    ensures marked { live.new.items ≡ map (Tickets.marked_if Tickets.all_unwanted) live.old.items }
-    ensures journal { journal.new.items ≡ journal.old.items ++ Tickets.mark_events Tickets.all_unwanted live.old.items }
+    ensures marked { live.new.items ≡ map (Tickets.marked_if UnwantedRuns.all_unwanted) live.old.items }
+    ensures journal { journal.new.items ≡ journal.old.items ++ Tickets.mark_events UnwantedRuns.all_unwanted live.old.items }
     ensures room { length journal.new.items + sum_by events_of live.new.items
         ≤ length journal.old.items + sum_by events_of live.old.items }
     ensures capacity { vec_capacity journal.new ≡ vec_capacity journal.old }
@@ -362,8 +342,8 @@ impl Ledger {
     /// Marks every live ticket, and tells how many newly. Takes no memory.
     #[tactic(auto, unfolding(crate::specs::Ledgers::events_kept))]
     pub fn mark_all(&mut self) -> usize
-        ensures count { result ≡ length (Tickets.mark_events Tickets.all_unwanted self.old.live) }
-        ensures marked { self.new ≡ Ledgers.with_marks self.old Tickets.all_unwanted self.new.spare }
+        ensures count { result ≡ length (Tickets.mark_events UnwantedRuns.all_unwanted self.old.live) }
+        ensures marked { self.new ≡ Ledgers.with_marks self.old UnwantedRuns.all_unwanted self.new.spare }
     {
         let before = self.journal.len();
         mark_each(&mut self.live, &mut self.journal);
@@ -374,9 +354,9 @@ impl Ledger {
     /// Takes no memory.
     #[tactic(auto, unfolding(crate::specs::Ledgers::events_kept))]
     pub fn mark_beside(&mut self, wishes: &[Wish], needed: &Needed<'_>) -> usize
-        ensures count { let is_unwanted = Tickets.is_unwanted_beside wishes.now needed.now in
+        ensures count { let is_unwanted = UnwantedRuns.is_unwanted_beside wishes.now needed.now in
             result ≡ length (Tickets.mark_events is_unwanted self.old.live) }
-        ensures marked { let is_unwanted = Tickets.is_unwanted_beside wishes.now needed.now in
+        ensures marked { let is_unwanted = UnwantedRuns.is_unwanted_beside wishes.now needed.now in
             self.new ≡ Ledgers.with_marks self.old is_unwanted self.new.spare }
     {
         let before = self.journal.len();

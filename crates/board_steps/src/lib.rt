@@ -8,15 +8,15 @@
 mod answers;
 mod events;
 mod ledger;
-mod needed;
 mod problem;
 mod tickets;
 mod truth;
+mod unwanted_runs;
 
 pub use answers::{Advanced, BoardVerdict, Recorded, Standing, Taken};
 pub use events::Event;
 pub use ledger::{Ledger, has_cell, has_ticket};
-pub use needed::Needed;
 pub use problem::Problem;
 pub use tickets::{Kind, LiveTicket, Ticket};
 pub use truth::Truth;
+pub use unwanted_runs::Needed;

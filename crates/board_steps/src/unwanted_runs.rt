@@ -1,9 +1,12 @@
-//! A run that is needed.
+//! A run that is needed, and which runs aren't wanted beside it.
 ghost use Rattle.std.specs.Prelude.{◌≡◌, nat_lt};
 ghost use Rattle.board_steps.specs.Tickets;
+ghost use Rattle.board_steps.specs.UnwantedRuns;
 
+use crate::tickets::{Kind, LiveTicket};
 use objective::Micros;
 use param_space::Config;
+use predictor::Wish;
 use run_cache::Cell;
 use std::marker::Model;
 
@@ -19,7 +22,7 @@ pub struct Needed<'a> {
 }
 
 impl<'a> Model for Needed<'a> {
-    ghost use Rattle.board_steps.specs.Tickets.{NeededRun};
+    ghost use Rattle.board_steps.specs.UnwantedRuns.{NeededRun};
 
     ghost Value = { NeededRun };
 
@@ -40,4 +43,25 @@ impl<'a> Needed<'a> {
     {
         self.cutoff.0 < cutoff.0
     }
+}
+
+/// Whether a cell is wished for.
+fn is_wished(wishes: &[Wish], cell: &Cell) -> bool
+    ensures { result ≡ UnwantedRuns.is_wished wishes.now cell.now }
+{
+    wishes.iter().any(|w| *cell == w.cell)
+}
+
+/// Whether the run of a live ticket isn't wanted beside a needed one.
+#[tactic(auto, unfolding(crate::specs::UnwantedRuns::is_unwanted_beside))]
+pub(crate) fn is_unwanted_beside(l: &LiveTicket, wishes: &[Wish], needed: &Needed<'_>) -> bool
+    ensures { result ≡ UnwantedRuns.is_unwanted_beside wishes.now needed.now l.now }
+{
+    if l.ticket.kind != Kind::Ahead {
+        return false;
+    }
+    if needed.is_of(&l.ticket.cell) {
+        return needed.is_below(l.ticket.run.cutoff);
+    }
+    !is_wished(wishes, &l.ticket.cell)
 }

@@ -17,8 +17,9 @@ use Rattle.board_steps.specs.declared.answers.BoardVerdict.TheVariants as board_
 use Rattle.board_steps.specs.declared.tickets.LiveTicket.{LiveTicket}
 use Rattle.board_steps.specs.Boards.{BoardState, PlainBoard, plain_board}
 use Rattle.board_steps.specs.BoardVerdicts.{asked_cell, config_of, board_verdict_by, board_verdict_of, verdict_on}
-use Rattle.board_steps.specs.Steps.{after_mark, is_unwanted, is_unwanted_by, marked_board, marked_on}
-use Rattle.board_steps.specs.Tickets.{marked_if, mark_events, is_unwanted_beside}
+use Rattle.board_steps.specs.Steps.{after_mark, marked_board, marked_on}
+use Rattle.board_steps.specs.Tickets.{marked_if, mark_events}
+use Rattle.board_steps.specs.UnwantedRuns.{is_unwanted, is_unwanted_by, is_unwanted_beside}
 
 -- nothing is unwanted
 abbrev pub none_unwanted : LiveTicket → Bool

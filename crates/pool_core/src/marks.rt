@@ -2,7 +2,8 @@
 ghost use Rattle.std.specs.Prelude.{◌≡◌, ◌||◌, OnOk, OnErr, length, nat_lt};
 ghost use Rattle.board_steps.specs.Boards.{plain_board};
 ghost use Rattle.board_steps.specs.Steps.{after_mark, after_resume, after_stop, marked_board, marked_on};
-ghost use Rattle.board_steps.specs.Tickets.{all_unwanted, mark_events};
+ghost use Rattle.board_steps.specs.Tickets.{mark_events};
+ghost use Rattle.board_steps.specs.UnwantedRuns.{all_unwanted};
 ghost use Rattle.pool_core.specs.OpenBoards.{StandsAt};
 
 use crate::board::Board;

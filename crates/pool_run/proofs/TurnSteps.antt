@@ -25,8 +25,9 @@ use Rattle.board_steps.specs.declared.tickets.LiveTicket.{LiveTicket}
 use Rattle.board_steps.specs.declared.tickets.Ticket.{Ticket}
 use Rattle.board_steps.specs.Numbering.{tickets_of}
 use Rattle.board_steps.specs.BoardVerdicts.{asked_cell, board_verdict_of, verdict_on, wishes_on}
-use Rattle.board_steps.specs.Steps.{with_taken, after_take, same_wish, with_reply, with_wishes, with_abort, advanced_by, advanced_to, advanced_on, after_advance, is_unwanted, after_mark, stopped_board, after_stop, with_end, with_loss, after_lost, is_free, taken_ahead, taken_by, taken_on}
+use Rattle.board_steps.specs.Steps.{with_taken, after_take, same_wish, with_reply, with_wishes, with_abort, advanced_by, advanced_to, advanced_on, after_advance, after_mark, stopped_board, after_stop, with_end, with_loss, after_lost, is_free, taken_ahead, taken_by, taken_on}
 use Rattle.board_steps.specs.Tickets.{mark_event, mark_events, has_ticket, found_in}
+use Rattle.board_steps.specs.UnwantedRuns.{is_unwanted}
 use Rattle.board_steps.proofs.LiveTickets.{tickets-marked, tickets-marked_if}
 use Rattle.pool_run.specs.RunEnds.{stopped_for}
 use Rattle.pool_run.specs.Seats.{SeatState}

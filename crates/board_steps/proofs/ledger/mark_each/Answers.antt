@@ -1,5 +1,5 @@
 use Rattle.std.proofs.Common.{arith, ◌<◌, ◌∙◌, length}
-use Rattle.board_steps.specs.Tickets.{all_unwanted}
+use Rattle.board_steps.specs.UnwantedRuns.{all_unwanted}
 use Rattle.board_steps.proofs.Rooms.{marks_live, marks_events, marks_room}
 use Rattle.board_steps.proofs.ledger.mark_each.Goals as goal
 

@@ -2,7 +2,8 @@ use Rattle.std.proofs.Common.{◌≡◌, ◌+◌, ◌≤◌, ◌++◌, map, leng
 use Rattle.std.specs.List.{sum_by}
 use Rattle.std.specs.Vec.{vec_capacity}
 use Rattle.board_steps.specs.Ledgers.{events_of}
-use Rattle.board_steps.specs.Tickets.{marked_if, mark_events, all_unwanted}
+use Rattle.board_steps.specs.Tickets.{marked_if, mark_events}
+use Rattle.board_steps.specs.UnwantedRuns.{all_unwanted}
 use Rattle.board_steps.proofs.ledger.mark_each.Given as goal
 
 -- those so far are marked

@@ -1,5 +1,5 @@
 use Rattle.std.proofs.Common.{arith, ◌<◌, ◌∙◌, length}
-use Rattle.board_steps.specs.Tickets.{is_unwanted_beside}
+use Rattle.board_steps.specs.UnwantedRuns.{is_unwanted_beside}
 use Rattle.board_steps.proofs.Rooms.{marks_live, marks_events, marks_room}
 use Rattle.board_steps.proofs.ledger.mark_each_unwanted.Goals as goal
 

@@ -1,5 +1,5 @@
 use Rattle.board_steps.specs.Boards.{state_of}
-use Rattle.board_steps.specs.Tickets.{all_unwanted}
+use Rattle.board_steps.specs.UnwantedRuns.{all_unwanted}
 use Rattle.board_steps.proofs.KeptBoards.{step-marks}
 use Rattle.pool_core.proofs.board.Board.mark_all.Goals as goal
 

@@ -1,6 +1,6 @@
 use Rattle.std.proofs.Common.{◌∙◌}
 use Rattle.board_steps.specs.Boards.{plain_board, state_of}
-use Rattle.board_steps.specs.Tickets.{NeededRun, is_unwanted_beside}
+use Rattle.board_steps.specs.UnwantedRuns.{NeededRun, is_unwanted_beside}
 use Rattle.board_steps.proofs.KeptBoards.{step-marks}
 use Rattle.pool_core.proofs.MarkedBoards.{no-end, unwanted-beside, marked-as, count-as}
 use Rattle.pool_core.proofs.board.Board.mark_beside.Goals as goal
