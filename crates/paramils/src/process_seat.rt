@@ -45,11 +45,12 @@ fn names_of(alloc: Global, process: u32, number: u32) -> Result<FileNames, Memor
     })
 }
 
-/// A child, and the file that it writes its output to.
+/// A child, and the files that it writes its output and its errors to.
 #[derive(Drop)]
 struct Running<P: OpenProcess> {
     child: Child<P>,
     output: File,
+    errors: File,
 }
 
 /// A seat whose children are processes of the system. What they do isn't told.
@@ -172,7 +173,7 @@ fn spawn<R: Processes + AllocGlobal>(
     command.spawn(rt)
 }
 
-/// Starts a child whose output goes to this file.
+/// Starts a child whose output and errors go to these files.
 fn launch_into<R: Processes + AllocGlobal>(
     rt: &R,
     dir: &str,
@@ -180,8 +181,13 @@ fn launch_into<R: Processes + AllocGlobal>(
     output: File,
     errors: &File,
 ) -> io::Result<Running<R::Started>> {
+    let kept = errors.try_clone()?;
     let child = spawn(rt, dir, words, &output, errors)?;
-    Ok(Running { child, output })
+    Ok(Running {
+        child,
+        output,
+        errors: kept,
+    })
 }
 
 /// Starts a child with a new file for its output.
@@ -201,6 +207,12 @@ fn launch<R: Files<File = File> + Processes + AllocGlobal>(
 fn write_why(mut errors: &File, dir: &str, words: &[Text], error: &Error) {
     let program = words.first().map_or("", |word| word.as_str());
     let _ = writeln!(errors, "{program} couldn't be started in {dir}: {error}");
+}
+
+/// Writes that the end of a run couldn't be seen, and what the system says of it. What goes
+/// wrong with that is left aside.
+fn write_why_unseen(mut errors: &File, error: &Error) {
+    let _ = writeln!(errors, "the end of the run couldn't be seen: {error}");
 }
 
 /// Starts a child with new files for its output and its errors. Where it can't be started,
@@ -246,6 +258,15 @@ impl<P: OpenProcess> Running<P> {
         read_last(&self.output, room)?;
         Ok(Poll::Ended)
     }
+
+    /// Looks whether the child has ended. Where that fails, the file for its errors says why.
+    fn look_or_write_why(&mut self, room: &mut Vec<u8>) -> io::Result<Poll> {
+        let found = self.look(room);
+        if let Err(error) = &found {
+            write_why_unseen(&self.errors, error);
+        }
+        found
+    }
 }
 
 impl<'a, R: Files<File = File> + Processes + Clock + AllocGlobal> ProcessSeat<'a, R> {
@@ -270,7 +291,7 @@ impl<'a, R: Files<File = File> + Processes + Clock + AllocGlobal> ProcessSeat<'a
         let Some(running) = &mut self.child else {
             return Err(Error::from(ErrorKind::NotFound));
         };
-        running.look(&mut self.output)
+        running.look_or_write_why(&mut self.output)
     }
 
     /// Kills the child, if there is one, and waits for its end; what goes wrong with either
@@ -325,7 +346,8 @@ impl<'a, R: Files<File = File> + Processes + Clock + AllocGlobal> Spawner for Pr
     }
 
     /// Looks whether the child has ended, and then takes over the last 65,536 bytes of what
-    /// it wrote. Fails where the look or the reading does; a child that still runs is killed.
+    /// it wrote. Fails where the look or the reading does, which the file for the errors says;
+    /// a child that still runs is killed.
     fn poll(&mut self) -> Result<Poll, Fail> {
         let look = self.look().ok();
         self.is_held = matches!(look, Some(Poll::Ended));
