@@ -4,7 +4,6 @@ use Rattle.std.specs.List.{sum_by, flat_map}
 use Rattle.std.proofs.lemmas.List.{flat_map_more, take_more, get_or-append_right, get_or-drop, length-map, length-take}
 use Rattle.std.proofs.lemmas.List.Edits.{map_over_more}
 use Rattle.std.proofs.lemmas.List.Sums.{sum_by-cons, sum_by-set}
-use Rattle.run_cache.specs.declared.cell.Cell.{Cell}
 use Rattle.board_steps.specs.declared.events.Event.{Event}
 use Rattle.board_steps.specs.declared.events.Event.TheVariants.{Stop}
 use Rattle.board_steps.specs.declared.tickets.LiveTicket.{LiveTicket}
@@ -60,11 +59,11 @@ marks_room ys i x new now after all within is step room =
     omega (arith, change, same, step, room)
 
 -- the room of a ledger that is stopped
-pub room_stopped : (journal_room lost_ahead_room : ℕ) (live : List LiveTicket) (lost_ahead : List Cell) (next : ℕ) (journal : List Event)
-    → HasRoom journal_room lost_ahead_room live lost_ahead next false journal
-    → HasRoom journal_room lost_ahead_room (map marked live) lost_ahead next true (journal ++ Stop ∷ [])
+pub room_stopped : (journal_room more_cells : ℕ) (live : List LiveTicket) (next : ℕ) (journal : List Event)
+    → HasRoom journal_room more_cells live next false journal
+    → HasRoom journal_room more_cells (map marked live) next true (journal ++ Stop ∷ [])
 unfolding events_kept
-room_stopped journal_room lost_ahead_room live lost_ahead next journal room =
+room_stopped journal_room more_cells live next journal room =
     let one_more = length-append journal (Stop ∷ []) in
     let as_many = length-map live marked in
     record {

@@ -18,7 +18,7 @@ pub record PlainBoard : Type 0 where
   pub conflicts : ℕ  -- the runs that contradicted what was known
   pub wishes : List Wish  -- runs that may be made ahead
   pub live : List LiveTicket
-  pub lost_ahead : List Cell  -- cells whose run ahead was lost
+  pub lost_ahead : List Cell  -- cells whose run ahead was lost, each once
   pub next : ℕ  -- the number of the next ticket
   pub stopped : Bool
   pub aborted : Option Cell  -- the cell that the walk of an ask came to and that aborts

@@ -6,12 +6,12 @@ use Rattle.board_steps.specs.declared.events.Event.{Event}
 use Rattle.board_steps.specs.declared.events.Event.TheVariants.{Advance, Take, Lost, Stop, Resume}
 use Rattle.board_steps.specs.declared.tickets.LiveTicket.{LiveTicket}
 use Rattle.board_steps.specs.declared.tickets.Ticket.{Ticket}
-use Rattle.board_steps.specs.Tickets.{is_ahead, without, marked, marked_if, mark_events}
+use Rattle.board_steps.specs.Tickets.{is_ahead, without, marked, marked_if, mark_events, with_cell}
 
 -- what a ledger holds
 pub record LedgerState : Type 0 where
   pub live : List LiveTicket
-  pub lost_ahead : List Cell
+  pub lost_ahead : List Cell  -- each once
   pub next : ℕ
   pub stopped : Bool
   pub journal : List Event
@@ -30,10 +30,10 @@ event_to_stop false = 1
 unfoldable pub events_kept : List LiveTicket → Bool → ℕ
 events_kept live stopped = sum_by events_of live + event_to_stop stopped
 
--- the lists have the room that is kept
-pub record HasRoom (journal_room lost_ahead_room : ℕ) (live : List LiveTicket) (lost_ahead : List Cell) (next : ℕ) (stopped : Bool) (journal : List Event) : Type 0 where
+-- the journal has the room that is kept, and so many more cells whose run ahead is lost find room
+pub record HasRoom (journal_room more_cells : ℕ) (live : List LiveTicket) (next : ℕ) (stopped : Bool) (journal : List Event) : Type 0 where
   pub events : length journal + events_kept live stopped ≤ journal_room
-  pub cells : length lost_ahead + length live ≤ lost_ahead_room
+  pub cells : length live ≤ more_cells
   pub numbers : next ≤ length journal + 1  -- each ticket has an event
 
 -- the event that a ticket was taken
@@ -46,7 +46,7 @@ unmarked t = record { ticket = t; marked = false }
 
 -- a run ahead that is lost isn't made ahead again
 abbrev pub lost_ahead_after : List Cell → Ticket → List Cell
-lost_ahead_after lost_ahead t = if is_ahead t.kind then lost_ahead ++ t.cell ∷ [] else lost_ahead
+lost_ahead_after lost_ahead t = if is_ahead t.kind then with_cell lost_ahead t.cell else lost_ahead
 
 -- a ledger without tickets
 abbrev pub opening_ledger : ℕ → LedgerState

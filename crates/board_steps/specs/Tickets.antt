@@ -1,12 +1,11 @@
 -- Tickets: which are the same, and those that are live.
-use Rattle.std.specs.Prelude.{ℕ, ◌==◌, ◌&&◌, not, Bool, true, false, List, [], ◌∷◌, Option, Some, None, bytes_eq, nat_lt, if◌then◌else◌}
+use Rattle.std.specs.Prelude.{ℕ, ◌==◌, ◌&&◌, not, Bool, true, false, List, [], ◌∷◌, ◌++◌, Option, Some, None, bytes_eq, if◌then◌else◌}
 use Rattle.std.specs.Cmp.Lexicographic.{pointwise}
 use Rattle.std.specs.List.{find, list_any, flat_map, remove, position_or_len}
 use Rattle.wrapper_lines.specs.declared.runs.Setting.{Setting}
 use Rattle.wrapper_lines.specs.declared.runs.Key.{Key}
 use Rattle.run_cache.specs.declared.cell.Cell.{Cell}
 use Rattle.run_cache.specs.Caches.{is_at}
-use Rattle.predictor.specs.declared.wish.Wish.{Wish}
 use Rattle.board_steps.specs.declared.events.Event.{Event}
 use Rattle.board_steps.specs.declared.events.Event.TheVariants.{Mark}
 use Rattle.board_steps.specs.declared.tickets.Kind.{Kind}
@@ -103,3 +102,7 @@ has_ticket live cell = list_any (λ l. same_cell cell l.ticket.cell) live
 -- a cell is among these
 unfoldable pub has_cell : List Cell → Cell → Bool
 has_cell cells cell = list_any (same_cell cell) cells
+
+-- these cells and one more, each once
+abbrev pub with_cell : List Cell → Cell → List Cell
+with_cell cells cell = if has_cell cells cell then cells else cells ++ cell ∷ []

@@ -2,6 +2,7 @@
 ghost use Rattle.std.specs.Prelude.{◌≡◌, ◌+◌, ◌-◌, ◌<◌, ◌≤◌, ◌++◌, suc, [], ◌∷◌, true, false, not, Some, IsSome, IsTrue, IfOk, OnOk, OnErr, option_copied, length, map, nat_lt, ◌||◌, slice_get, slice_set, IsSomeAnd, ◌^◌};
 ghost use Rattle.std.specs.Vec.{vec_len, vec_capacity};
 ghost use Rattle.std.specs.List.{list_any, sum_by};
+ghost use Rattle.indexmap.specs.IndexSet.{spare};
 ghost use Rattle.board_steps.specs.Tickets;
 ghost use Rattle.board_steps.specs.UnwantedRuns;
 ghost use Rattle.board_steps.specs.Ledgers;
@@ -11,6 +12,7 @@ use crate::answers::Standing;
 use crate::events::Event;
 use crate::tickets::{Kind, LiveTicket, Ticket};
 use crate::unwanted_runs::{Needed, is_unwanted_beside};
+use indexmap::IndexSet;
 use objective::Memory;
 use predictor::Wish;
 use run_cache::Cell;
@@ -24,7 +26,7 @@ use std::marker::Model;
 #[derive(Drop)]
 pub struct Ledger {
     live: Vec<LiveTicket>,
-    lost_ahead: Vec<Cell>,
+    lost_ahead: IndexSet<Cell>,
     next: u64,
     stopped: bool,
     journal: Vec<Event>,
@@ -33,21 +35,22 @@ pub struct Ledger {
 impl Model for Ledger {
     ghost use Rattle.std.specs.Prelude.{◌+◌, ◌-◌, length};
     ghost use Rattle.std.specs.Vec.{vec_capacity};
+    ghost use Rattle.indexmap.specs.IndexSet.{spare};
     ghost use Rattle.board_steps.specs.Ledgers.{LedgerState, HasRoom, events_kept};
 
     ghost Value = { LedgerState };
 
     ghost view = { λ l. record {
       live = l.live.items;
-      lost_ahead = l.lost_ahead.items;
+      lost_ahead = l.lost_ahead.keys;
       next = l.next;
       stopped = l.stopped;
       journal = l.journal.items;
       spare = vec_capacity l.journal - (length l.journal.items + events_kept l.live.items l.stopped);
     } };
 
-    ghost invariant = { λ l. HasRoom (vec_capacity l.journal) (vec_capacity l.lost_ahead)
-        l.live.items l.lost_ahead.items l.next l.stopped l.journal.items };
+    ghost invariant = { λ l. HasRoom (vec_capacity l.journal) (spare l.lost_ahead)
+        l.live.items l.next l.stopped l.journal.items };
 }
 
 /// Whether a live ticket is of this cell.
@@ -58,12 +61,25 @@ pub fn has_ticket(live: &[LiveTicket], cell: &Cell) -> bool
     live.iter().any(|l| *cell == l.ticket.cell)
 }
 
-/// Whether a cell is among these.
+/// Whether a cell is among these. It costs the same however many they are.
 #[tactic(auto, unfolding(crate::specs::Tickets::has_cell))]
-pub fn has_cell(cells: &[Cell], cell: &Cell) -> bool
-    ensures { result ≡ Tickets.has_cell cells.now cell.now }
+fn has_cell(cells: &IndexSet<Cell>, cell: &Cell) -> bool
+    ensures { result ≡ Tickets.has_cell cells.now.keys cell.now }
 {
-    cells.iter().any(|other| cell == other)
+    cells.contains(cell)
+}
+
+/// Puts a cell to these, for which there is room. Takes no memory.
+#[tactic(auto, unfolding(crate::specs::Tickets::has_cell))]
+fn add_cell(cells: &mut IndexSet<Cell>, cell: Cell)
+    requires { 1 ≤ spare cells.old }
+    ensures cells { cells.new.keys ≡ Tickets.with_cell cells.old.keys cell }
+    ensures room { spare cells.old ≤ spare cells.new + 1 }
+{
+    match cells.insert(cell) {
+        Ok(_) => {}
+        Err(_) => unreachable!(),
+    }
 }
 
 /// The index of the live ticket with a number, or how many there are.
@@ -189,7 +205,7 @@ impl Ledger {
         journal.reserve(1)?;
         Ok(Ledger {
             live: Vec::new(alloc),
-            lost_ahead: Vec::new(alloc),
+            lost_ahead: IndexSet::new(alloc),
             next: 1,
             stopped: false,
             journal,
@@ -203,11 +219,11 @@ impl Ledger {
         &self.live
     }
 
-    /// The cells whose run ahead was lost.
-    pub fn lost_ahead(&self) -> &[Cell]
-        ensures { result.now ≡ self.now.lost_ahead }
+    /// Whether a run ahead of this cell was lost.
+    pub fn is_lost_ahead(&self, cell: &Cell) -> bool
+        ensures { result ≡ Tickets.has_cell self.now.lost_ahead cell.now }
     {
-        &self.lost_ahead
+        has_cell(&self.lost_ahead, cell)
     }
 
     /// The number of the next ticket.
@@ -334,7 +350,7 @@ impl Ledger {
     {
         let LiveTicket { ticket, marked: _ } = remove(&mut self.live, number);
         if ticket.kind == Kind::Ahead {
-            self.lost_ahead.push_reserved(ticket.cell);
+            add_cell(&mut self.lost_ahead, ticket.cell);
         }
         self.journal.push_reserved(Event::Lost { number });
     }

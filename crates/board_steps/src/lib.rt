@@ -15,7 +15,7 @@ mod unwanted_runs;
 
 pub use answers::{Advanced, BoardVerdict, Recorded, Standing, Taken};
 pub use events::Event;
-pub use ledger::{Ledger, has_cell, has_ticket};
+pub use ledger::{Ledger, has_ticket};
 pub use problem::Problem;
 pub use tickets::{Kind, LiveTicket, Ticket};
 pub use truth::Truth;

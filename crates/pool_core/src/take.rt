@@ -11,7 +11,7 @@ ghost use Rattle.pool_core.specs.OpenBoards.{IsRunnableAt, StandsAt};
 
 use crate::board::Board;
 use crate::present_asks::asked_cell;
-use board_steps::{BoardVerdict, Kind, Taken, Ticket, has_cell, has_ticket};
+use board_steps::{BoardVerdict, Kind, Taken, Ticket, has_ticket};
 use capping::Verdict;
 use ils_face::Search;
 use objective::{Memory, Micros};
@@ -76,7 +76,7 @@ impl<P: Search, S: Spawner> Board<P, S> {
         ensures { result ≡ is_free (plain_board self.now) needed.now wish.now }
     {
         !has_ticket(self.ledger.live(), &wish.cell)
-            && !has_cell(self.ledger.lost_ahead(), &wish.cell)
+            && !self.ledger.is_lost_ahead(&wish.cell)
             && *needed != wish.cell
             && !self.cache.known(&wish.cell).is_settled(wish.cutoff)
     }

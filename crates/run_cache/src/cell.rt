@@ -4,6 +4,7 @@ ghost use Rattle.run_cache.specs.Caches;
 
 use objective::Memory;
 use param_space::Config;
+use std::hash::{Hash, Hasher};
 
 /// A configuration at a place.
 #[derive(Drop)]
@@ -35,6 +36,22 @@ impl Eq for Cell {
     ghost use Rattle.std.proofs.Common.{rules};
 
     ghost laws = { Prim.search (comparing, rules) };
+}
+
+impl Hash for Cell {
+    ghost use Rattle.std.specs.Prelude.{◌++◌};
+    ghost use Rattle.std.specs.Hash as fed;
+    ghost use Rattle.std.specs.Cmp.Rules.{hashing};
+    ghost use Rattle.std.proofs.Common.{rules};
+
+    ghost hash_input = { λ c. fed.slice fed.u16 c.config ++ fed.u32 c.place };
+
+    ghost respects_eq = { Prim.search (hashing, rules) };
+
+    fn hash<H: Hasher>(&self, state: &mut H) {
+        self.config.hash(state);
+        self.place.hash(state);
+    }
 }
 
 impl Cell {
