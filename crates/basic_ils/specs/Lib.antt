@@ -1,3 +1,4 @@
+pub mod Comparison
 pub mod State
 pub mod View
 pub mod Laws

@@ -1,4 +1,5 @@
--- How far BasicILS is with a comparison, what it asks for, and what a reply does (Hutter et al., JAIR 36).
+-- How far BasicILS is, its incumbent and entries, what a reply does, and which state of the procedure it stands for
+-- (Hutter et al., JAIR 36).
 use Rattle.std.specs.Prelude.{ℕ, ◌≡◌, ◌≤◌, Bool, true, false, not, ◌&&◌, List, [], ◌∷◌, ◌++◌, Option, None, Some, IsSome, nat_le, nat_lt, bytes_eq}
 use Rattle.param_space.specs.Space.{defaults}
 use Rattle.uncapped.specs.Procedure.{Settings, Sums, Incumbent, PlainState, Procedure, ◌>>=◌, give}
@@ -9,15 +10,9 @@ use Rattle.ils_face.specs.Rules.{Rules}
 use Rattle.ils_face.specs.Trajectories.{newest, IsTrajectory}
 use Rattle.ils_face.specs.declared.asks.Reply.{Reply}
 use Rattle.ils_face.specs.declared.asks.Reply.TheVariants.{Exact, Exceeds}
-use Rattle.ils_frame.specs.Comparers.{AskedStage, Ready, Asking, Decided, Parts, AreCostsKnown}
-
--- how far a comparison is
-pub data Phase : Type 0 where
-  Opening : Phase  -- the default configuration is to be evaluated
-  Opened : Phase  -- nothing was compared yet
-  Second : (first second : Settings) → Phase  -- the second one is to be evaluated
-  First : (first : Settings) → (bound : ℕ) → Phase  -- then the first one, up to the second one's cost
-  Compared : Bool → Phase  -- whether the first one won
+use Rattle.ils_frame.specs.Comparers.{Parts, AreCostsKnown}
+use Rattle.ils_frame.specs.IncumbentInvariant.{IncumbentInvariant}
+use Rattle.basic_ils.specs.Comparison.{Phase, Opening, Opened, Second, First, Compared, stage_at, phase_after}
 
 -- how far BasicILS is, with the incumbents so far
 pub record State : Type 0 where
@@ -25,24 +20,6 @@ pub record State : Type 0 where
   pub last : Incumbent
   pub phase : Phase
   pub entries : List Incumbent  -- oldest first
-
--- the evaluation that is asked for
-abbrev pub stage_at : ℕ → Settings → Phase → AskedStage
-stage_at n incumbent Opening = Asking (record { config = incumbent; places = n; bound = None })
-stage_at n incumbent Opened = Ready
-stage_at n incumbent (Second first second) = Asking (record { config = second; places = n; bound = None })
-stage_at n incumbent (First first bound) = Asking (record { config = first; places = n; bound = Some bound })
-stage_at n incumbent (Compared won) = Decided won
-
--- a tie is won; nothing but a cost up to the bound is replied in full
-abbrev pub phase_after : Phase → Reply → Phase
-phase_after Opening r = Opened
-phase_after Opened r = Opened
-phase_after (Second first second) (Exact x) = First first x.0
-phase_after (Second first second) Exceeds = Compared false
-phase_after (First first bound) (Exact x) = Compared true
-phase_after (First first bound) Exceeds = Compared false
-phase_after (Compared won) r = Compared won
 
 -- the configuration that is evaluated, or else the incumbent
 abbrev pub evaluated_config : Settings → Phase → Settings
@@ -230,4 +207,5 @@ pub record Stands (start : Settings) (sums : Sums) (c : State) (s : PlainState) 
   pub incumbent : s.incumbent ≡ c.last.config
   pub compared : s.compared ≡ c.last.compared
   pub known : AreCostsKnown sums s
+  pub invariant : IncumbentInvariant sums s
   pub phase : StandsAt c.max_runs start sums c.last c.phase s

@@ -7,7 +7,7 @@ use Rattle.ils_face.specs.declared.asks.Ask.TheVariants as ask
 use Rattle.ils_frame.specs.Comparers.{question_in}
 use Rattle.basic_ils.specs.declared.phase.Phase as phase
 use Rattle.basic_ils.specs.declared.phase.Phase.TheVariants as held
-use Rattle.basic_ils.specs.State.{Phase, Opening, Opened, Second, First, Compared, stage_at}
+use Rattle.basic_ils.specs.Comparison.{Phase, Opening, Opened, Second, First, Compared, stage_at}
 
 -- the configuration that is asked for
 abbrev pub config_in : Ask → Settings

@@ -1,6 +1,7 @@
 //! The comparer of BasicILS.
 ghost use Rattle.std.specs.Prelude.{◌≡◌, IfOk, OnOk, OnErr, bytes_eq};
-ghost use Rattle.basic_ils.specs.State.{evaluated_config, is_renewed, state_renewed, phase_after};
+ghost use Rattle.basic_ils.specs.Comparison.{phase_after};
+ghost use Rattle.basic_ils.specs.State.{evaluated_config, is_renewed, state_renewed};
 
 use crate::phase::Phase;
 use ils_face::{Ask, Entry, Reply, Rules};

@@ -6,7 +6,8 @@ use Rattle.ils_face.specs.declared.asks.Reply.{Reply}
 use Rattle.ils_face.specs.declared.asks.Reply.TheVariants.{Exact, Exceeds}
 use Rattle.ils_frame.specs.Comparers.{decision_in}
 use Rattle.focused_ils.specs.Counts.{Counts, count_in, raised}
-use Rattle.focused_ils.specs.State.{Turn, Phase, Opened, High, Low, Further, Compared, Tally, is_overtaken, is_incumbent_first, question_at, stage_at, last_after, first_in, first_dominates, low_dominates, high_dominates, phase_by, next_turn, phase_after_turn, phase_next, phase_after}
+use Rattle.focused_ils.specs.Comparison.{Turn, Phase, Opened, High, Low, Further, Compared, is_overtaken, is_incumbent_first, question_at, stage_at, first_in, first_dominates, low_dominates, high_dominates, phase_by, next_turn, phase_after_turn, phase_next}
+use Rattle.focused_ils.specs.State.{Tally, last_after, phase_after}
 use Rattle.focused_ils.specs.Laws.Counting.{same_config, raised-itself, raised-other}
 
 -- a count that rises to n was at most n where it is so now

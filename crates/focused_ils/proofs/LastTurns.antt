@@ -6,7 +6,8 @@ use Rattle.uncapped.specs.Procedure.{Settings}
 use Rattle.ils_face.specs.declared.asks.Reply.{Reply}
 use Rattle.ils_face.specs.declared.asks.Reply.TheVariants.{Exact, Exceeds}
 use Rattle.focused_ils.specs.Counts.{Counts, count_in, raised}
-use Rattle.focused_ils.specs.State.{Turn, IsTurn, low_dominates, high_dominates}
+use Rattle.focused_ils.specs.Comparison.{Turn, low_dominates, high_dominates}
+use Rattle.focused_ils.specs.State.{IsTurn}
 use Rattle.focused_ils.specs.Laws.Counting.{raised-most}
 
 -- after a turn that none may follow, one of the two dominates

@@ -1,4 +1,5 @@
 pub mod Counts
+pub mod Comparison
 pub mod State
 pub mod Questions
 pub mod View

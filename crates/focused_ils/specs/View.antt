@@ -7,7 +7,8 @@ use Rattle.ils_frame.specs.Comparers.{question_in}
 use Rattle.focused_ils.specs.declared.phase.Phase as phase
 use Rattle.focused_ils.specs.declared.phase.Phase.TheVariants as held
 use Rattle.focused_ils.specs.Counts.{Counts, count_in}
-use Rattle.focused_ils.specs.State.{Turn, Phase, Opened, High, Low, Further, Compared, is_incumbent_first, question_at, stage_at, is_extended, last_where, phase_next, first_turn}
+use Rattle.focused_ils.specs.Comparison.{Turn, Phase, Opened, High, Low, Further, Compared, is_incumbent_first, question_at, stage_at, phase_next, first_turn}
+use Rattle.focused_ils.specs.State.{is_extended, last_where}
 
 -- the incumbent, and how far the comparison is
 pub record Held : Type 0 where

@@ -3,8 +3,10 @@ ghost use Rattle.std.specs.Prelude.{ℕ, ◌≡◌, ◌+◌, min, ◌&&◌, not,
 ghost use Rattle.ils_face.specs.Replies.{ask_of};
 ghost use Rattle.ils_frame.specs.Comparers.{stage_of, decision_in};
 ghost use Rattle.focused_ils.specs.Counts.{Counts, count_in};
+ghost use Rattle.focused_ils.specs.Comparison as comparison;
 ghost use Rattle.focused_ils.specs.State as state;
-ghost use Rattle.focused_ils.specs.State.{Turn, Opened, High, first_incumbent, first_turn, phase_after_turn, is_extended, last_where, stage_at, phase_next, bonus_next};
+ghost use Rattle.focused_ils.specs.Comparison.{Turn, Opened, High, first_turn, phase_after_turn, stage_at, phase_next};
+ghost use Rattle.focused_ils.specs.State.{first_incumbent, is_extended, last_where, bonus_next};
 ghost use Rattle.focused_ils.specs.View.{first_seen, IsAsking, asked_in, IfLow, held_extended, held_at_begin, phase_from};
 
 use crate::counts::Counts;
@@ -91,7 +93,7 @@ fn further_places(runs: u32, bonus: u32, max_runs: u32) -> u32
 
 /// Whether the one that catches up has as many runs by now, and costs no more.
 fn low_dominates(counts: &Counts, high: &OpenAsk, reply: Reply) -> bool
-    ensures { result ≡ state.low_dominates counts.now high.now.config high.now.places reply }
+    ensures { result ≡ comparison.low_dominates counts.now high.now.config high.now.places reply }
 {
     match reply {
         Reply::Exact(_) => counts.runs(high.config()) <= high.places(),
@@ -101,7 +103,7 @@ fn low_dominates(counts: &Counts, high: &OpenAsk, reply: Reply) -> bool
 
 /// Whether the one with more runs costs no more.
 fn high_dominates(bound: Sum, reply: Reply) -> bool
-    ensures { result ≡ state.high_dominates bound.0 reply }
+    ensures { result ≡ comparison.high_dominates bound.0 reply }
 {
     match reply {
         Reply::Exact(sum) => bound.0 <= sum.0,
@@ -167,7 +169,7 @@ impl Comparison {
 
     /// Whether the incumbent goes first.
     pub fn is_incumbent_first(&self) -> bool
-        ensures { result ≡ state.is_incumbent_first self.now.last self.now.phase }
+        ensures { result ≡ comparison.is_incumbent_first self.now.last self.now.phase }
     {
         match self.phase {
             Phase::High { .. } => is_overtaken(&self.incumbent, self.runs, &self.high),

@@ -3,7 +3,8 @@ ghost use Rattle.std.specs.Prelude.{◌≡◌, ◌==◌, ◌++◌, ◌∷◌, []
 ghost use Rattle.ils_face.specs.Replies.{ask_for};
 ghost use Rattle.ils_frame.specs.Comparers.{question_in};
 ghost use Rattle.focused_ils.specs.Counts.{count_in};
-ghost use Rattle.focused_ils.specs.State.{stage_at, is_incumbent_first, is_better, question_at, bonus_more, state_counted, state_next};
+ghost use Rattle.focused_ils.specs.Comparison.{stage_at, is_incumbent_first, question_at};
+ghost use Rattle.focused_ils.specs.State.{is_better, bonus_more, state_counted, state_next};
 
 use crate::comparison::Comparison;
 use crate::counts::Counts;

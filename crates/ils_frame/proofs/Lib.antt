@@ -1,4 +1,5 @@
 pub mod CountedCosts
+pub mod KeptIncumbents
 mod PerturbationSteps
 mod UpcomingLemmas
 mod MachineBegin

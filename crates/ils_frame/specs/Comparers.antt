@@ -10,6 +10,7 @@ use Rattle.ils_face.specs.Replies.{Fits, ask_of, reply_up_to, cost_asked}
 use Rattle.ils_face.specs.Trajectories.{newest, IsTrajectory}
 use Rattle.ils_frame.specs.declared.stage.Stage.{Stage}
 use Rattle.ils_frame.specs.declared.stage.Stage.TheVariants as stages
+use Rattle.ils_frame.specs.IncumbentInvariant.{IncumbentInvariant}
 
 -- how far a comparer is, with its question
 pub data AskedStage : Type 0 where
@@ -153,3 +154,4 @@ pub record Keeps {S : Type 0} (parts : Parts S) (fit : S → Type 0) (stands : S
   pub known : (c : S) (s : PlainState) → fit c → stands c s → AreCostsKnown sums s
   pub ended : (c : S) (s : PlainState) (b : Bool) → decision_in (parts.stage c) ≡ Some b → coming c s ≡ Goes s b
   pub last : (c : S) (s : PlainState) → fit c → stands c s → parts.last c ≡ last_of sums s
+  pub leads : (c : S) (s : PlainState) → fit c → stands c s → IncumbentInvariant sums s

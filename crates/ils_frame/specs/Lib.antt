@@ -1,3 +1,4 @@
+pub mod IncumbentInvariant
 pub mod Comparers
 pub mod NextComparison
 pub mod Machine

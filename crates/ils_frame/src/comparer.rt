@@ -103,7 +103,9 @@ pub trait Comparer: Sized + Drop {
     ghost steady: { (rules : Rules) → AreRules rules → let start = defaults rules.space.params in
         IsSteadyComparer parts (fit rules) rules.max_runs (IsConfig rules.space) start (at_open rules) };
 
-    /// With the replies of a table it does what the procedure does.
+    /// With the replies of a table it does what the procedure does, and the incumbent
+    /// invariant holds: no configuration has more runs than the incumbent, none with as many
+    /// costs less over them, and the incumbent's cost was replied.
     ghost keeps: { (rules : Rules) (T : Table) → AreRules rules → let sums = sums_under rules T in
         Keeps parts (fit rules) (stands rules sums) (coming rules sums) (better rules sums) (opening rules sums)
         (setup_of rules) sums (at_open rules) };

@@ -1,7 +1,8 @@
 -- With the replies of total costs BasicILS does what the procedure does.
 use Rattle.std.proofs.Common.{◌≡◌, ℕ, ◌≤◌, ◌<◌, Bool, true, false, not, List, [], Option, Some, None, IfSome, nat_le, nat_lt, bytes_eq, if◌then◌else◌, refl, sym, ◌∙◌, ap, arith, inl, inr}
 use Rattle.std.proofs.lemmas.List.{append-nil, length_push}
-use Rattle.std.proofs.lemmas.Bool.{le-ltb, leb-false, ltb-false, and_cases, not-false}
+use Rattle.std.proofs.lemmas.Bool.{le-ltb, leb-false, ltb-true, ltb-false, and_cases, not-false}
+use Rattle.std.specs.Cmp.{second_so}
 use Rattle.std.proofs.lemmas.Slice.Eq.{bytes_eq-Decides}
 use Rattle.std.proofs.Math.Bool.{and-false}
 use Rattle.std.proofs.Math.Nat.{le_refl}
@@ -19,9 +20,12 @@ use Rattle.ils_face.specs.Follows.{sums_under}
 use Rattle.ils_face.specs.Replies.{reply_up_to, cost_asked}
 use Rattle.ils_face.specs.declared.asks.Reply.{Reply}
 use Rattle.ils_face.specs.declared.asks.Reply.TheVariants.{Exact, Exceeds}
-use Rattle.ils_frame.specs.Comparers.{question_in, decision_in, Advanced, GoesOn, AreCostsKnown, Keeps}
+use Rattle.ils_frame.specs.Comparers.{question_in, decision_in, Advanced, GoesOn, AreCostsKnown, opened_state, Keeps}
+use Rattle.ils_frame.specs.IncumbentInvariant.{IncumbentInvariant}
 use Rattle.ils_frame.proofs.CountedCosts.{counts_after-known}
-use Rattle.basic_ils.specs.State.{Phase, Opening, Opened, Second, First, Compared, State, stage_at, is_better, entry, entry_where, last_after, after_evaluation, win_where, coming_at, coming_in, basic_parts, first_state, IsFit, IsFresh, IsKnown, Stands, StandsAt}
+use Rattle.ils_frame.proofs.KeptIncumbents.{at-first, kept-beside, kept-lost, kept-won, kept-extended}
+use Rattle.basic_ils.specs.Comparison.{Phase, Opening, Opened, Second, First, Compared, stage_at}
+use Rattle.basic_ils.specs.State.{State, is_better, entry, entry_where, last_after, after_evaluation, win_where, coming_at, coming_in, basic_parts, first_state, IsFit, IsFresh, IsKnown, Stands, StandsAt}
 use Rattle.basic_ils.specs.Laws.SteadyLaw.{at_question}
 use Rattle.basic_ils.specs.Laws.Evaluations.{counts_after-most, counts_after-top, counts_after-itself, evaluate-known, evaluate-unknown}
 
@@ -45,6 +49,17 @@ module _ (n : ℕ) (sums : Sums) (last : Incumbent) (s : PlainState) where
   costs_known true θ bound x k e = counts_after-known sums s.counts θ n k (rw e refl)
   costs_known false θ bound x k e = counts_after-known sums s.counts θ n k (rw e refl)
 
+  -- what is no better costs at least as much as the incumbent
+  no_less : (θ : Settings) (x : ℕ) → s.incumbent ≡ last.config → IsKnown n sums last s → sums θ n ≡ Some x
+      → is_better last θ x ≡ false → last.sum ≤ x
+  no_less θ x i k e w = elim (and_cases (not (bytes_eq θ last.config)) (nat_lt x last.sum) w) [
+    | inl t ↦ (let same : θ ≡ last.config = (bytes_eq-Decides θ last.config).0 (not-false (bytes_eq θ last.config) t) in
+        let o : Some x ≡ Some last.sum = sym e ∙ ap (λ φ. sums φ n) (same ∙ sym i) ∙ k.sum in
+        let p : x ≡ last.sum = cc in
+        omega (arith, p))
+    | inr t ↦ ltb-false x last.sum t
+  ]
+
   -- the incumbent costs no more than what was evaluated
   at_most_after : (θ : Settings) (x : ℕ) → s.incumbent ≡ last.config → IsKnown n sums last s → sums θ n ≡ Some x
       → (last_after last (entry_where (is_better last θ x) (entry n last θ x))).sum ≤ x
@@ -52,13 +67,27 @@ module _ (n : ℕ) (sums : Sums) (last : Incumbent) (s : PlainState) where
     where
       at_either : (b : Bool) → is_better last θ x ≡ b → (last_after last (entry_where b (entry n last θ x))).sum ≤ x
       at_either true w = le_refl x
-      at_either false w = elim (and_cases (not (bytes_eq θ last.config)) (nat_lt x last.sum) w) [
-        | inl t ↦ (let same : θ ≡ last.config = (bytes_eq-Decides θ last.config).0 (not-false (bytes_eq θ last.config) t) in
-            let o : Some x ≡ Some last.sum = sym e ∙ ap (λ φ. sums φ n) (same ∙ sym i) ∙ k.sum in
-            let p : x ≡ last.sum = cc in
-            omega (arith, p))
-        | inr t ↦ ltb-false x last.sum t
-      ]
+      at_either false w = no_less θ x i k e w
+
+  module _ (known : IsKnown n sums last s) (g : IncumbentInvariant sums s) (θ : Settings) (bound : Option ℕ) (x : ℕ) (e : sums θ n ≡ Some x) where
+    -- the cost of the incumbent's runs
+    its_cost : sums s.incumbent (s.counts s.incumbent) ≡ Some last.sum
+    its_cost = ap (sums s.incumbent) known.top ∙ known.sum
+
+    -- the invariant where no new incumbent comes of it
+    invariant_lost : last.sum ≤ x → IncumbentInvariant sums (after_evaluation θ n bound s)
+    invariant_lost h = kept-lost sums s g θ n bound x e last.sum its_cost (let t = known.top in omega (arith, t)) (λ _. h)
+
+    -- and where its cost was replied
+    invariant_replied : s.incumbent ≡ last.config → reply_up_to x bound ≡ Exact (record { 0 = x })
+        → IncumbentInvariant sums (win_where (is_better last θ x) θ n x (after_evaluation θ n bound s))
+    invariant_replied i exact = at_either (is_better last θ x) refl
+      where
+        at_either : (b : Bool) → is_better last θ x ≡ b → IncumbentInvariant sums (win_where b θ n x (after_evaluation θ n bound s))
+        at_either true w =
+            let less : x < last.sum = ltb-true x last.sum (second_so (not (bytes_eq θ last.config)) (nat_lt x last.sum) w) in
+            kept-won sums s g θ n bound x e last.sum its_cost (sym known.top) (omega (arith, less)) exact
+        at_either false w = invariant_lost (no_less θ x i known e w)
 
 -- a cost above a bound that the incumbent keeps is no better
 not_better : (last : Incumbent) (θ : Settings) (bound x : ℕ) → last.sum ≤ bound → nat_le x bound ≡ false → is_better last θ x ≡ false
@@ -124,9 +153,16 @@ module _ (setup : Setup) (sums : Sums) (start : Settings) (b : setup.start ≡ s
   GoesOnBy c s q r = GoesOn basic_parts (Stands start sums) (coming_in setup sums) c s q r
 
   module _ (n : ℕ) (m : setup.max_runs ≡ n) (last : Incumbent) (entries : List Incumbent) (s : PlainState) (i : s.incumbent ≡ last.config) (c : s.compared ≡ last.compared)
-      (v : AreCostsKnown sums s) where
+      (v : AreCostsKnown sums s) (g : IncumbentInvariant sums s) where
     abbrev at_phase : Phase → State
     at_phase phase = record { max_runs = n; last = last; phase = phase; entries = entries }
+
+    opening_invariant : IsFresh start last s → (x : ℕ) → sums last.config n ≡ Some x
+        → IncumbentInvariant sums (after_entry last.config n x (after_evaluation last.config n None s))
+    opening_invariant f x e =
+        let t : PlainState = after_evaluation last.config n None s in
+        let runs : s.counts s.incumbent ≤ n = (let z : s.counts s.incumbent ≡ 0 = f.counts s.incumbent in omega (arith, z)) in
+        kept-beside sums t (kept-extended sums s g last.config n None x e (sym i) runs refl) t.bonus t.compared t.event (after_entry last.config n x t).entries
 
     opening_replied : IsFresh start last s → (x : ℕ) → sums last.config n ≡ Some x
         → GoesOnBy (at_phase Opening) s (record { config = last.config; places = n; bound = None }) (Exact (record { 0 = x }))
@@ -137,6 +173,7 @@ module _ (setup : Setup) (sums : Sums) (start : Settings) (b : setup.start ≡ s
             incumbent = i;
             compared = c;
             known = costs_known n sums last s false last.config None x v e;
+            invariant = opening_invariant f x e;
             phase = record {
               most = λ φ. counts_after-most s.counts last.config n φ (few last.config) (few φ);
               top = rw i (counts_after-itself s.counts last.config n (few last.config));
@@ -155,6 +192,7 @@ module _ (setup : Setup) (sums : Sums) (start : Settings) (b : setup.start ≡ s
         incumbent = incumbent_after (is_better last second x) second n x None last s i;
         compared = compared_after (is_better last second x) second n x None last s c;
         known = costs_known n sums last s (is_better last second x) second None x v e;
+        invariant = invariant_replied n sums last s k g second None x e i refl;
         phase = (known_after n sums last s (is_better last second x) second None x k e, at_most_after n sums last s second x i k e);
       };
       same = second_goes setup sums n m last s first second x i k e;
@@ -168,6 +206,7 @@ module _ (setup : Setup) (sums : Sums) (start : Settings) (b : setup.start ≡ s
         incumbent = incumbent_after (is_better last first x) first n x (Some bound) last s i;
         compared = compared_after (is_better last first x) first n x (Some bound) last s c;
         known = costs_known n sums last s (is_better last first x) first (Some bound) x v e;
+        invariant = invariant_replied n sums last s k g first (Some bound) x e i (rw t refl);
         phase = known_after n sums last s (is_better last first x) first (Some bound) x k e;
       };
       same = first_goes setup sums n m last s first bound x true i k e t;
@@ -178,6 +217,7 @@ module _ (setup : Setup) (sums : Sums) (start : Settings) (b : setup.start ≡ s
         incumbent = i;
         compared = c;
         known = costs_known n sums last s false first (Some bound) x v e;
+        invariant = invariant_lost n sums last s k g first (Some bound) x e (let o : bound < x = leb-false x bound t in omega (arith, h, o));
         phase = known_after n sums last s false first (Some bound) x k e;
       };
       same = first_goes setup sums n m last s first bound x false i k e t
@@ -253,26 +293,30 @@ ended_at setup sums n incumbent (Compared won) s b e = let t : won ≡ b = cc in
 
 -- ---- the law
 
+-- before any reply
+abbrev first_of : ℕ → Settings → State
+first_of n start = record { max_runs = n; last = record { compared = 0; runs = 0; sum = 0; config = start }; phase = Opening; entries = [] }
+
 -- with the replies of total costs
 pub basic_keeps : (n : ℕ) (allowed : Settings → Type 0) (start : Settings) (setup : Setup) (sums : Sums) → setup.max_runs ≡ n → setup.start ≡ start → ((θ : Settings) → sums θ 0 ≡ Some 0)
-    → Keeps basic_parts (IsFit n allowed) (Stands start sums) (coming_in setup sums) (better_basic setup sums) (opening_basic setup sums) setup sums
-    (record { max_runs = n; last = record { compared = 0; runs = 0; sum = 0; config = start }; phase = Opening; entries = [] })
+    → Keeps basic_parts (IsFit n allowed) (Stands start sums) (coming_in setup sums) (better_basic setup sums) (opening_basic setup sums) setup sums (first_of n start)
 basic_keeps n allowed start setup sums m b zero = record {
-  opened = record { incumbent = b; compared = refl; known = λ φ. rw (zero φ) refl; phase = record { counts = λ φ. refl; config = refl; runs = refl; sum = refl } };
+  opened = record { incumbent = b; compared = refl; known = λ φ. rw (zero φ) refl; invariant = at-first sums (opened_state basic_parts setup (first_of n start)) (λ φ. refl) zero; phase = record { counts = λ φ. refl; config = refl; runs = refl; sum = refl } };
   opens = refl;
-  redrawn = λ c s e k. record { incumbent = k.incumbent; compared = k.compared; known = k.known; phase = redrawn_at c.max_runs sums start c.last c.phase s e k.phase };
-  answered = λ c s q x f k a e. at_question (basic_parts.stage c) (Replied setup sums start b c.max_runs (m ∙ sym f.runs) c.last c.entries s k.incumbent k.compared k.known c.phase)
-      (replied_by setup sums start b c.max_runs (m ∙ sym f.runs) c.last c.entries s k.incumbent k.compared k.known c.phase k.phase) q a x e;
-  aborts = λ c s q f k a e. at_question (basic_parts.stage c) (Aborts setup sums start b c.max_runs (m ∙ sym f.runs) c.last c.entries s k.incumbent k.compared k.known c.phase)
-      (aborts_by setup sums start b c.max_runs (m ∙ sym f.runs) c.last c.entries s k.incumbent k.compared k.known c.phase k.phase) q a e;
+  redrawn = λ c s e k. record { incumbent = k.incumbent; compared = k.compared; known = k.known; invariant = kept-beside sums s k.invariant s.bonus s.compared e s.entries; phase = redrawn_at c.max_runs sums start c.last c.phase s e k.phase };
+  answered = λ c s q x f k a e. at_question (basic_parts.stage c) (Replied setup sums start b c.max_runs (m ∙ sym f.runs) c.last c.entries s k.incumbent k.compared k.known k.invariant c.phase)
+      (replied_by setup sums start b c.max_runs (m ∙ sym f.runs) c.last c.entries s k.incumbent k.compared k.known k.invariant c.phase k.phase) q a x e;
+  aborts = λ c s q f k a e. at_question (basic_parts.stage c) (Aborts setup sums start b c.max_runs (m ∙ sym f.runs) c.last c.entries s k.incumbent k.compared k.known k.invariant c.phase)
+      (aborts_by setup sums start b c.max_runs (m ∙ sym f.runs) c.last c.entries s k.incumbent k.compared k.known k.invariant c.phase k.phase) q a e;
   begins = λ c s θ φ j f k none. let h : IsKnown c.max_runs sums c.last s = known_at_rest c.max_runs sums start c.last c.phase s none k.phase in record {
-    stays = record { incumbent = k.incumbent; compared = refl; known = k.known; phase = record { most = h.most; top = h.top; runs = h.runs; sum = h.sum } };
+    stays = record { incumbent = k.incumbent; compared = refl; known = k.known; invariant = kept-beside sums s k.invariant s.bonus j s.event s.entries; phase = record { most = h.most; top = h.top; runs = h.runs; sum = h.sum } };
     same = refl;
     unasked = record { asks = refl; entries = refl; event = refl };
   };
   known = λ c s f k. k.known;
   ended = λ c s b e. ended_at setup sums c.max_runs c.last.config c.phase s b e;
   last = λ c s f k. last_by c.max_runs sums start c.last c.phase s zero k.incumbent k.compared k.phase;
+  leads = λ c s f k. k.invariant;
 }
 
 -- under the rules of a search, with the replies of a table

@@ -13,7 +13,8 @@ use Rattle.ils_face.proofs.Trajectories.{newest-push, trajectory-none, trajector
 use Rattle.ils_face.specs.declared.asks.Reply.{Reply}
 use Rattle.ils_face.specs.declared.asks.Reply.TheVariants.{Exact, Exceeds}
 use Rattle.ils_frame.specs.Comparers.{AskedStage, Ready, Asking, Decided, question_in, SameIncumbent, NewIncumbent, Answered, Begun, InRange, IsSteadyComparer}
-use Rattle.basic_ils.specs.State.{Phase, Opening, Opened, Second, First, Compared, State, stage_at, phase_after, evaluated_config, is_renewed, entry, entry_where, added_at, last_after, left_at, basic_parts, first_state, IsPhaseFit, IsEntered, IsFit}
+use Rattle.basic_ils.specs.Comparison.{Phase, Opening, Opened, Second, First, Compared, stage_at, phase_after}
+use Rattle.basic_ils.specs.State.{State, evaluated_config, is_renewed, entry, entry_where, added_at, last_after, left_at, basic_parts, first_state, IsPhaseFit, IsEntered, IsFit}
 
 -- ---- questions
 

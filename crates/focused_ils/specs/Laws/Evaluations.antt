@@ -5,7 +5,8 @@ use Rattle.std.proofs.Math.Bool.{and-false}
 use Rattle.std.proofs.Math.Nat.{le_refl}
 use Rattle.uncapped.specs.Procedure.{Settings, Sums, Question, Incumbent, PlainState, Goes, Ends, Aborted, goes_on, give, becomes, when}
 use Rattle.uncapped.specs.Evaluation.{after_ask, after_win, counts_after, measure, is_below, overtakes, beats, evaluate}
-use Rattle.focused_ils.specs.State.{is_overtaken, is_better, after_evaluation, win_where}
+use Rattle.focused_ils.specs.Comparison.{is_overtaken}
+use Rattle.focused_ils.specs.State.{is_better, after_evaluation, win_where}
 use Rattle.focused_ils.specs.Laws.Counting.{is_itself, other_way}
 use Rattle.focused_ils.specs.Laws.Tallies.{overtaken-where}
 

@@ -19,11 +19,14 @@ use Rattle.ils_face.specs.Replies.{reply_up_to, cost_asked}
 use Rattle.ils_face.specs.declared.asks.Reply.{Reply}
 use Rattle.ils_face.specs.declared.asks.Reply.TheVariants.{Exceeds}
 use Rattle.ils_frame.specs.Comparers.{Asking, question_in, decision_in, Advanced, GoesOn, Starts, AreCostsKnown, opened_state, Keeps}
+use Rattle.ils_frame.specs.IncumbentInvariant.{IncumbentInvariant}
 use Rattle.ils_frame.proofs.CountedCosts.{counts_after-known}
+use Rattle.ils_frame.proofs.KeptIncumbents.{at-first, kept-beside, kept-lost, kept-won, kept-extended}
 use Rattle.focused_ils.specs.Counts.{Counts, count_in, raised}
-use Rattle.focused_ils.specs.State.{Turn, Phase, Opened, High, Low, Further, Compared, Tally, State, is_overtaken, one_of, full_where, question_at, stage_at, is_better, is_extended, entry, last_where, last_after, entry_where, added_by, low_dominates, high_dominates, first_in, first_dominates, phase_by, next_turn, phase_after_turn, after_evaluation, win_where, replied_by, bonus_next, cleared_at, decision_after, turns_after, turn_from_low, coming_at, coming_in, focused_parts, state_from, first_state, HasMostRuns, IsTurn, IsPhaseFit, IsFit, IsBound, StandsAt, Stands}
+use Rattle.focused_ils.specs.Comparison.{Turn, Phase, Opened, High, Low, Further, Compared, is_overtaken, one_of, full_where, question_at, stage_at, low_dominates, high_dominates, first_in, first_dominates, phase_by, next_turn, phase_after_turn}
+use Rattle.focused_ils.specs.State.{Tally, State, is_better, is_extended, entry, last_where, last_after, entry_where, added_by, after_evaluation, win_where, replied_by, bonus_next, cleared_at, started_at, decision_after, turns_after, turn_from_low, coming_at, coming_in, focused_parts, state_from, first_state, HasMostRuns, IsTurn, IsPhaseFit, IsFit, IsBound, StandsAt, Stands}
 use Rattle.focused_ils.specs.Laws.Counting.{count-none, raised-itself, raised-grows, raised-same}
-use Rattle.focused_ils.specs.Laws.Tallies.{exactly, not_overtaken, extended-where, no_better-itself}
+use Rattle.focused_ils.specs.Laws.Tallies.{exactly, not_overtaken, not_overtaken-due, better-where, extended-where, no-more, no_better-itself}
 use Rattle.focused_ils.specs.Laws.SteadyLaw.{at_question}
 use Rattle.focused_ils.specs.Laws.Evaluations.{IsIncumbent, evaluate-overtaken, evaluate-known, evaluate-unknown, evaluate-stopped}
 use Rattle.focused_ils.specs.Laws.Turns.{turn-ends, begins-so}
@@ -46,19 +49,23 @@ module _ (sums : Sums) (last : Incumbent) (cost : sums last.config last.runs ≡
       let o : Some x ≡ Some last.sum = sym u ∙ ap (λ φ. sums φ last.runs) same ∙ cost in
       cc
 
+  -- what is no better on the incumbent's places costs at least as much
+  no_less : q.places ≡ last.runs → is_better last q.config q.places x ≡ false → last.sum ≤ x
+  no_less p w = at_either (bytes_eq q.config last.config) refl w
+    where
+      at_either : (b : Bool) → bytes_eq q.config last.config ≡ b → (not b && (q.places == last.runs) && nat_lt x last.sum) ≡ false → last.sum ≤ x
+      at_either true t w = let z : x ≡ last.sum = same_cost q.config ((bytes_eq-Decides q.config last.config).0 t) (ap (sums q.config) (sym p) ∙ e) in omega (arith, z)
+      at_either false t w = ltb-false x last.sum (sym (ap (λ b. b && nat_lt x last.sum) (eq-eqb q.places last.runs p)) ∙ w)
+
   -- on the incumbent's places, that one costs no more after it
   least_after : q.places ≡ (last_after last q (exactly x)).runs → (last_after last q (exactly x)).sum ≤ x
   least_after = at_either (is_better last q.config q.places x) refl (is_extended last q.config q.places)
     where
-      no_better : (b : Bool) → bytes_eq q.config last.config ≡ b → q.places ≡ last.runs → (not b && (q.places == last.runs) && nat_lt x last.sum) ≡ false → last.sum ≤ x
-      no_better true t p w = let z : x ≡ last.sum = same_cost q.config ((bytes_eq-Decides q.config last.config).0 t) (ap (sums q.config) (sym p) ∙ e) in omega (arith, z)
-      no_better false t p w = ltb-false x last.sum (sym (ap (λ b. b && nat_lt x last.sum) (eq-eqb q.places last.runs p)) ∙ w)
-
       at_either : (b : Bool) → is_better last q.config q.places x ≡ b → (d : Bool)
           → q.places ≡ (last_where b d last q.config q.places x).runs → (last_where b d last q.config q.places x).sum ≤ x
       at_either true w d p = omega arith
       at_either false w true p = omega arith
-      at_either false w false p = no_better (bytes_eq q.config last.config) refl p w
+      at_either false w false p = no_less p w
 
 -- what exceeds a bound that hides nothing isn't better
 not_better : (last : Incumbent) (θ : Settings) (i bound x : ℕ) → (i ≡ last.runs → last.sum ≤ bound) → nat_le x bound ≡ false → is_better last θ i x ≡ false
@@ -111,54 +118,94 @@ pub record StandsFor (sums : Sums) (t : Tally) (s : PlainState) : Type 0 where
   pub bonus : s.bonus ≡ t.bonus
   pub counts : (φ : Settings) → s.counts φ ≡ count_in t.counts φ
   pub known : AreCostsKnown sums s
+  pub invariant : IncumbentInvariant sums s
   pub cost : sums t.last.config t.last.runs ≡ Some t.last.sum
 
+module _ (sums : Sums) (t : Tally) (s : PlainState) (f : HasMostRuns t) (k : StandsFor sums t s) where
+  pub incumbent_so : IsIncumbent sums t.last s
+  incumbent_so = record { config = k.incumbent; runs = k.counts t.last.config ∙ f.top; cost = k.cost }
+
+  top_so : s.counts s.incumbent ≡ t.last.runs
+  top_so = ap s.counts k.incumbent ∙ incumbent_so.runs
+
+  cost_so : sums s.incumbent (s.counts s.incumbent) ≡ Some t.last.sum
+  cost_so = ap (sums s.incumbent) top_so ∙ ap (λ θ. sums θ t.last.runs) k.incumbent ∙ k.cost
+
+  module _ (q : Question) (x : ℕ) (e : cost_asked sums q ≡ Some x) where
+    -- the invariant where the incumbent stays and has as many runs as before
+    invariant_lost : q.places ≤ t.last.runs → (q.places ≡ t.last.runs → t.last.sum ≤ x) → IncumbentInvariant sums (after_evaluation q s)
+    invariant_lost few h = kept-lost sums s k.invariant q.config q.places q.bound x e t.last.sum cost_so (rw top_so few) (λ p. h (p ∙ top_so))
+
+    -- the invariant after a cost
+    invariant_after : is_overtaken t.last q.config q.places ≡ false → reply_up_to x q.bound ≡ exactly x
+        → IncumbentInvariant sums (replied_by t.last q (exactly x) s)
+    invariant_after o exact = at_either (is_better t.last q.config q.places x) refl (is_extended t.last q.config q.places) refl
+      where
+        at_either : (b : Bool) → is_better t.last q.config q.places x ≡ b → (d : Bool) → is_extended t.last q.config q.places ≡ d
+            → IncumbentInvariant sums (win_where b q.config q.places x (after_evaluation q s))
+        at_either true w d v =
+            let p : (bytes_eq q.config t.last.config ≡ false) × (q.places ≡ t.last.runs) × (x < t.last.sum) = better-where t.last q.config q.places x w in
+            let less : x < t.last.sum = p.2 in
+            kept-won sums s k.invariant q.config q.places q.bound x e t.last.sum cost_so (p.1 ∙ sym top_so) (omega (arith, less)) exact
+        at_either false w true v =
+            let p : (q.config ≡ t.last.config) × (t.last.runs < q.places) = extended-where t.last q.config q.places v in
+            let more : t.last.runs < q.places = p.1 in
+            kept-extended sums s k.invariant q.config q.places q.bound x e (p.0 ∙ sym k.incumbent) (let z = top_so in omega (arith, z, more)) exact
+        at_either false w false v = invariant_lost (no-more t.last q.config q.places o v) (λ p. no_less sums t.last k.cost q x e p w)
+
+    -- after a cost
+    stands_after : is_overtaken t.last q.config q.places ≡ false → reply_up_to x q.bound ≡ exactly x
+        → StandsFor sums (record { counts = raised t.counts q.config q.places; last = last_after t.last q (exactly x); bonus = t.bonus }) (replied_by t.last q (exactly x) s)
+    stands_after o exact =
+        let b : Bool = is_better t.last q.config q.places x in
+        let d : Bool = is_extended t.last q.config q.places in
+        record {
+          incumbent = incumbent_after q x t.last s b d k.incumbent;
+          compared = compared_after q x t.last s b d k.compared;
+          bonus = bonus_after q x t.last s b ∙ k.bonus;
+          counts = counts_after_win q x t.last s b t.counts k.counts;
+          known = known_after q x t.last s sums b k.known e;
+          invariant = invariant_after o exact;
+          cost = cost_after sums t.last k.cost q x e;
+        }
+
+    -- after a cost above the bound
+    stands_exceeded : q.places ≤ t.last.runs → (q.places ≡ t.last.runs → t.last.sum ≤ x)
+        → StandsFor sums (record { counts = raised t.counts q.config q.places; last = t.last; bonus = t.bonus }) (after_evaluation q s)
+    stands_exceeded few h = record {
+      incumbent = k.incumbent;
+      compared = k.compared;
+      bonus = k.bonus;
+      counts = raised-same t.counts q.config q.places s.counts k.counts;
+      known = counts_after-known sums s.counts q.config q.places k.known (rw e refl);
+      invariant = invariant_lost few h;
+      cost = k.cost;
+    }
+
 module _ (sums : Sums) (t : Tally) (s : PlainState) (k : StandsFor sums t s) where
-  -- after a cost
-  stands_after : (q : Question) (x : ℕ) → cost_asked sums q ≡ Some x
-      → StandsFor sums (record { counts = raised t.counts q.config q.places; last = last_after t.last q (exactly x); bonus = t.bonus }) (replied_by t.last q (exactly x) s)
-  stands_after q x e =
-      let b : Bool = is_better t.last q.config q.places x in
-      let d : Bool = is_extended t.last q.config q.places in
-      record {
-        incumbent = incumbent_after q x t.last s b d k.incumbent;
-        compared = compared_after q x t.last s b d k.compared;
-        bonus = bonus_after q x t.last s b ∙ k.bonus;
-        counts = counts_after_win q x t.last s b t.counts k.counts;
-        known = known_after q x t.last s sums b k.known e;
-        cost = cost_after sums t.last k.cost q x e;
-      }
-
-  -- after a cost above the bound
-  stands_exceeded : (q : Question) (x : ℕ) → cost_asked sums q ≡ Some x
-      → StandsFor sums (record { counts = raised t.counts q.config q.places; last = t.last; bonus = t.bonus }) (after_evaluation q s)
-  stands_exceeded q x e = record {
-    incumbent = k.incumbent;
-    compared = k.compared;
-    bonus = k.bonus;
-    counts = raised-same t.counts q.config q.places s.counts k.counts;
-    known = counts_after-known sums s.counts q.config q.places k.known (rw e refl);
-    cost = k.cost;
-  }
-
   -- at the next phase, or at the same one
   stands_next : (phase : Phase) (b : Bool) → StandsFor sums (record t { bonus = if b then t.bonus else bonus_next phase t.bonus }) (if b then s else cleared_at phase s)
   stands_next phase true = k
   stands_next Opened false = k
   stands_next (High turn) false = k
   stands_next (Low turn bound) false = k
-  stands_next (Further θ i) false = record { incumbent = k.incumbent; compared = k.compared; bonus = refl; counts = k.counts; known = k.known; cost = k.cost }
+  stands_next (Further θ i) false = record {
+    incumbent = k.incumbent;
+    compared = k.compared;
+    bonus = refl;
+    counts = k.counts;
+    known = k.known;
+    invariant = kept-beside sums s k.invariant 0 s.compared s.event s.entries;
+    cost = k.cost;
+  }
   stands_next (Compared won) false = k
-
-  incumbent_so : HasMostRuns t → IsIncumbent sums t.last s
-  incumbent_so f = record { config = k.incumbent; runs = k.counts t.last.config ∙ f.top; cost = k.cost }
 
 with_phase : (n : ℕ) (sums : Sums) (t : Tally) (phase : Phase) (entries : List Incumbent) (s : PlainState) → StandsFor sums t s → StandsAt sums t.last phase
     → Stands sums (record { max_runs = n; tally = t; phase = phase; entries = entries }) s
-with_phase n sums t phase entries s k p = record { incumbent = k.incumbent; compared = k.compared; bonus = k.bonus; counts = k.counts; known = k.known; cost = k.cost; phase = p }
+with_phase n sums t phase entries s k p = record { incumbent = k.incumbent; compared = k.compared; bonus = k.bonus; counts = k.counts; known = k.known; invariant = k.invariant; cost = k.cost; phase = p }
 
 without_phase : (sums : Sums) (c : State) (s : PlainState) → Stands sums c s → StandsFor sums c.tally s
-without_phase sums c s k = record { incumbent = k.incumbent; compared = k.compared; bonus = k.bonus; counts = k.counts; known = k.known; cost = k.cost }
+without_phase sums c s k = record { incumbent = k.incumbent; compared = k.compared; bonus = k.bonus; counts = k.counts; known = k.known; invariant = k.invariant; cost = k.cost }
 
 -- ---- a reply
 
@@ -170,7 +217,7 @@ module _ (setup : Setup) (sums : Sums) (n : ℕ) (m : setup.max_runs ≡ n) (all
   GoesOnBy phase q r = GoesOn focused_parts (Stands sums) (coming_in setup sums) (at_phase phase) s q r
 
   is_incumbent : IsIncumbent sums t.last s
-  is_incumbent = incumbent_so sums t s k f
+  is_incumbent = incumbent_so sums t s f k
 
   -- what follows the evaluation of the one with more runs
   abbrev after_high : Turn → Step ℕ → Step Bool
@@ -204,7 +251,7 @@ module _ (setup : Setup) (sums : Sums) (n : ℕ) (m : setup.max_runs ≡ n) (all
       let q : Question = question_at t.last (High turn) in
       let o : Bool = is_overtaken t.last turn.high turn.places in
       record {
-        stays = with_phase n sums _ _ _ _ (stands_next sums _ _ (stands_after sums t s k q x e) (High turn) o) (high_bound turn x o e);
+        stays = with_phase n sums _ _ _ _ (stands_next sums _ _ (stands_after sums t s f k q x e (not_overtaken-due t.last turn.high turn.places o refl) refl) (High turn) o) (high_bound turn x o e);
         same = high_goes turn x o refl e;
         advanced = next_advanced (High turn) o q (exactly x) _ (advanced_by q x t.last s (is_better t.last q.config q.places x) k.compared);
       }
@@ -227,7 +274,7 @@ module _ (setup : Setup) (sums : Sums) (n : ℕ) (m : setup.max_runs ≡ n) (all
       let q : Question = question_at t.last (Further θ i) in
       let o : Bool = is_overtaken t.last θ i in
       record {
-        stays = with_phase n sums _ _ _ _ (stands_next sums _ _ (stands_after sums t s k q x e) (Further θ i) o) (further_stands θ i o (last_after t.last q (exactly x)));
+        stays = with_phase n sums _ _ _ _ (stands_next sums _ _ (stands_after sums t s f k q x e (not_overtaken-due t.last θ i o refl) refl) (Further θ i) o) (further_stands θ i o (last_after t.last q (exactly x)));
         same = further_goes θ i x o refl e;
         advanced = next_advanced (Further θ i) o q (exactly x) _ (advanced_by q x t.last s (is_better t.last q.config q.places x) k.compared);
       }
@@ -259,8 +306,15 @@ module _ (setup : Setup) (sums : Sums) (n : ℕ) (m : setup.max_runs ≡ n) (all
     still_ahead : turn.places ≤ count_in counts_then turn.high
     still_ahead = let r : count_in t.counts turn.high ≤ count_in counts_then turn.high = raised-grows t.counts turn.low turn.places turn.high in omega (arith, ahead, r)
 
+    few : turn.places ≤ t.last.runs
+    few = let p : count_in t.counts turn.high ≤ t.last.runs = f.most turn.high in omega (arith, p, ahead)
+
     within : is_overtaken t.last turn.low turn.places ≡ false
-    within = not_overtaken t.last turn.low turn.places (let p : count_in t.counts turn.high ≤ t.last.runs = f.most turn.high in omega (arith, p, ahead))
+    within = not_overtaken t.last turn.low turn.places few
+
+    -- what exceeds the bound costs at least as much as the incumbent
+    no_worse : turn.places ≡ t.last.runs → bound < x → t.last.sum ≤ x
+    no_worse p o = let l : t.last.sum ≤ bound = h.least p in omega (arith, l, o)
 
     abbrev after_low : PlainState
     after_low = win_where (is_better t.last turn.low turn.places x) turn.low turn.places x (after_evaluation its_question s)
@@ -284,13 +338,13 @@ module _ (setup : Setup) (sums : Sums) (n : ℕ) (m : setup.max_runs ≡ n) (all
 
     low_replied : (b : Bool) → nat_le x bound ≡ b → GoesOnBy (Low turn bound) its_question (if b then exactly x else Exceeds)
     low_replied true u = record {
-      stays = with_phase n sums _ _ _ _ (stands_after sums t s k its_question x e)
+      stays = with_phase n sums _ _ _ _ (stands_after sums t s f k its_question x e within (rw u refl))
           (turn_stands turn counts_then (low_dominates counts_then turn.high turn.places (exactly x)) (high_dominates bound (exactly x)) (last_after t.last its_question (exactly x)));
       same = turn_goes ∙ rw (u, and-true (nat_le (count_in counts_then turn.high) turn.places)) refl;
       advanced = advanced_by its_question x t.last s (is_better t.last turn.low turn.places x) k.compared;
     }
     low_replied false u = record {
-      stays = with_phase n sums _ _ _ _ (stands_exceeded sums t s k its_question x e) (turn_stands turn counts_then false true t.last);
+      stays = with_phase n sums _ _ _ _ (stands_exceeded sums t s f k its_question x e few (λ p. no_worse p (leb-false x bound u))) (turn_stands turn counts_then false true t.last);
       same =
           let o : bound < x = leb-false x bound u in
           turn_goes
@@ -371,6 +425,7 @@ module _ (setup : Setup) (sums : Sums) (n : ℕ) (m : setup.max_runs ≡ n) (all
       bonus = rw (k.bonus, k.counts θ, k.counts φ) refl;
       counts = k.counts;
       known = k.known;
+      invariant = kept-beside sums s k.invariant (started_at θ φ j s).bonus j s.event s.entries;
       cost = k.cost;
       phase = tt;
     };
@@ -382,15 +437,25 @@ module _ (setup : Setup) (sums : Sums) (n : ℕ) (m : setup.max_runs ≡ n) (all
 pub focused_keeps : (n : ℕ) (allowed : Settings → Type 0) (start : Settings) (setup : Setup) (sums : Sums) → setup.max_runs ≡ n → setup.start ≡ start → ((θ : Settings) → sums θ 0 ≡ Some 0)
     → Keeps focused_parts (IsFit n allowed) (Stands sums) (coming_in setup sums) (better_focused setup sums) (opening_focused setup) setup sums (state_from n start)
 focused_keeps n allowed start setup sums m b nothing = record {
-  opened = record { incumbent = b; compared = refl; bonus = refl; counts = λ φ. sym (count-none φ); known = λ φ. rw (nothing φ) refl; cost = nothing start; phase = tt };
+  opened = record { incumbent = b; compared = refl; bonus = refl; counts = λ φ. sym (count-none φ); known = λ φ. rw (nothing φ) refl; invariant = at-first sums (opened_state focused_parts setup (state_from n start)) (λ φ. refl) nothing; cost = nothing start; phase = tt };
   opens = opens setup sums start b;
-  redrawn = λ c s e k. record { incumbent = k.incumbent; compared = k.compared; bonus = k.bonus; counts = k.counts; known = k.known; cost = k.cost; phase = k.phase };
+  redrawn = λ c s e k. record {
+    incumbent = k.incumbent;
+    compared = k.compared;
+    bonus = k.bonus;
+    counts = k.counts;
+    known = k.known;
+    invariant = kept-beside sums s k.invariant s.bonus s.compared e s.entries;
+    cost = k.cost;
+    phase = k.phase;
+  };
   answered = λ c s q x f k a e. answered setup sums n m allowed c s f k q x a e;
   aborts = λ c s q f k a e. aborted setup sums n m allowed c s f k q a e;
   begins = λ c s θ φ j f k none. begins setup sums n m allowed c s f k θ φ j;
   known = λ c s f k. k.known;
   ended = λ c s b e. ended_at setup sums c.tally.last c.phase s b e;
   last = λ c s f k. last_known sums c.tally s f.tally (without_phase sums c s k);
+  leads = λ c s f k. k.invariant;
 }
 
 -- under the rules of a search, with the replies of a table

@@ -11,7 +11,8 @@ use Rattle.ils_face.specs.declared.asks.Reply.{Reply}
 use Rattle.ils_face.specs.declared.asks.Reply.TheVariants.{Exact, Exceeds}
 use Rattle.ils_frame.specs.Comparers.{AskedStage, Ready, Asking, Decided, question_in, Answered, Begun, InRange, IsSteadyComparer}
 use Rattle.focused_ils.specs.Counts.{Counts, count_in, raised}
-use Rattle.focused_ils.specs.State.{Turn, Phase, Opened, High, Low, Further, Compared, Tally, State, is_overtaken, one_of, full_where, in_full, question_at, stage_at, last_after, first_in, first_dominates, phase_by, next_turn, phase_after_turn, low_dominates, high_dominates, phase_after, tally_after, first_turn, one_where, left_at, focused_parts, first_incumbent, state_from, first_state, HasMostRuns, IsTurn, IsPhaseFit, IsFit}
+use Rattle.focused_ils.specs.Comparison.{Turn, Phase, Opened, High, Low, Further, Compared, is_overtaken, one_of, full_where, in_full, question_at, stage_at, first_in, first_dominates, phase_by, next_turn, phase_after_turn, low_dominates, high_dominates, first_turn}
+use Rattle.focused_ils.specs.State.{Tally, State, last_after, phase_after, tally_after, one_where, left_at, focused_parts, first_incumbent, state_from, first_state, HasMostRuns, IsTurn, IsPhaseFit, IsFit}
 use Rattle.focused_ils.specs.Laws.Counting.{count-none, raised-new, raised-grows, raised-most}
 use Rattle.focused_ils.specs.Laws.Tallies.{exactly, overtaken-where, not_overtaken, not_overtaken-due, last-extended, last-compared, last-earned, most-kept, most-after, trajectory-after, earlier-after, entered-after}
 

@@ -11,7 +11,8 @@ use Rattle.ils_face.specs.declared.asks.Reply.{Reply}
 use Rattle.ils_face.specs.declared.asks.Reply.TheVariants.{Exact, Exceeds}
 use Rattle.ils_frame.specs.Comparers.{SameIncumbent, NewIncumbent}
 use Rattle.focused_ils.specs.Counts.{count_in, raised}
-use Rattle.focused_ils.specs.State.{Tally, is_overtaken, one_of, is_better, is_extended, entry, last_where, last_after, entry_where, added_by, HasMostRuns}
+use Rattle.focused_ils.specs.Comparison.{is_overtaken, one_of}
+use Rattle.focused_ils.specs.State.{Tally, is_better, is_extended, entry, last_where, last_after, entry_where, added_by, HasMostRuns}
 use Rattle.focused_ils.specs.Laws.Counting.{same_config, is_itself, other_way, raised-itself, raised-other, raised-most}
 
 -- the reply of a cost

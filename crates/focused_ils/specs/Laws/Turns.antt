@@ -5,7 +5,8 @@ use Rattle.uncapped.specs.Procedure.{Settings, Sums, PlainState, goes_on}
 use Rattle.uncapped.specs.Setup.{Setup}
 use Rattle.uncapped.specs.Evaluation.{is_at_most, dominates, catch_up, better_focused}
 use Rattle.focused_ils.specs.Counts.{Counts, count_in}
-use Rattle.focused_ils.specs.State.{Turn, High, phase_after_turn, first_turn, started_at, decision_after, turns_after, coming_at}
+use Rattle.focused_ils.specs.Comparison.{Turn, High, phase_after_turn, first_turn}
+use Rattle.focused_ils.specs.State.{started_at, decision_after, turns_after, coming_at}
 
 -- ---- a turn's end
 

@@ -1,6 +1,7 @@
 use Rattle.std.proofs.Common.{◌≡◌, subst}
 use Rattle.ils_frame.specs.Comparers.{decision_in}
-use Rattle.focused_ils.specs.State.{State, stage_at, last_after, question_at, phase_after}
+use Rattle.focused_ils.specs.Comparison.{stage_at, question_at}
+use Rattle.focused_ils.specs.State.{State, last_after, phase_after}
 use Rattle.focused_ils.proofs.Decisions.{decided-so}
 use Rattle.focused_ils.proofs.focused.FocusedComparer.decided_by.Goals as goal
 
