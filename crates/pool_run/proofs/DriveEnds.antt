@@ -1,5 +1,5 @@
 -- How a drive goes on after a run, and what it comes to where it ends.
-use Rattle.std.proofs.Common.{◌≡◌, ◌≤◌, true, false, true≢false, Bool, List, [], ◌∷◌, Option, Some, None, Ok, Err, refl, sym, ap, subst, ◌∙◌, arith, if◌then◌else◌}
+use Rattle.std.proofs.Common.{◌≡◌, true, false, true≢false, Bool, List, [], ◌∷◌, Option, Some, None, Ok, Err, refl, sym, ap, subst, ◌∙◌, arith, if◌then◌else◌}
 use Rattle.std.specs.Prelude.{IsSomeAnd}
 use Rattle.wrapper_lines.specs.declared.runs.Program.{Program}
 use Rattle.outside.specs.declared.faults.Fault.{Fault}
@@ -46,7 +46,7 @@ module _ (shown : Rules → List Reply → View) (program : Program) (seat : Sea
       let t = has.ticket in
       let kept = some-then (last_of s.tickets) (RanTicket program (Ok tt) s s') t has.last runs in
       let R : Ticket → Type 0 = λ u. u.kind ≡ Asked → RanAsked program (Ok tt) b c s.told s'.told u in
-      let ran : RanAsked program (Ok tt) b c s.told s'.told t = some-then (last_of s.tickets) R t has.last last.ran has.asked in
+      let ran : RanAsked program (Ok tt) b c s.told s'.told t = some-then (last_of s.tickets) R t has.last last has.asked in
       let answer = ran.answered.answer in
       let after : plain_board c ≡ after_record (plain_board b) t answer = ran.answered.after in
       let made = made-answer program (plain_board board) seat.told s.told seat.tickets s.tickets (plain_board b) t answer s'.told has.live has.taken ran.started has.made in
@@ -139,7 +139,7 @@ module _ (shown : Rules → List Reply → View) (program : Program) (seat : Sea
       let t = has.ticket in
       let kept = some-then (last_of s.tickets) (RanTicket program (Err f) s s') t has.last runs in
       let R : Ticket → Type 0 = λ u. u.kind ≡ Asked → RanAsked program (Err f) b c s.told s'.told u in
-      let ran : RanAsked program (Err f) b c s.told s'.told t = some-then (last_of s.tickets) R t has.last last.ran has.asked in
+      let ran : RanAsked program (Err f) b c s.told s'.told t = some-then (last_of s.tickets) R t has.last last has.asked in
       let lost = has-lost s board b c has ran.lost in
       let D : Bool → Type 0 = λ over. DroveTo shown program (driven_by (Err f) over) board c seat s' in
       subst D (sym lost.over) (by f t kept.after has.last lost)

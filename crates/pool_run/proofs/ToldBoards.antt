@@ -1,12 +1,6 @@
 -- What holds of a board before and after several steps, where it is told.
-use Rattle.std.proofs.Common.{Option, Some, None, IfSome, IsSome, refl}
+use Rattle.std.proofs.Common.{Option, Some, None, IfSome}
 use Rattle.pool_run.specs.HeldBoards.{WhereTold}
-
--- what the step makes of a board, from what it was given
-pub told-more : {B : Type 0} (o p : Option B) (P Q : B → B → Type 0) → ((b c : B) → P b c → Q b c) → WhereTold o p P → WhereTold o p Q
-told-more None p P Q more holds = tt
-told-more (Some b) None P Q more holds = absurd holds
-told-more (Some b) (Some c) P Q more holds = more b c holds
 
 -- no step
 pub told-none : {B : Type 0} (o : Option B) (I : B → Type 0) (P : B → B → Type 0) → ((b : B) → I b → P b b) → IfSome o I → WhereTold o o P
@@ -21,15 +15,10 @@ told-then (Some b) None q P Q R both one other = absurd one
 told-then (Some b) (Some c) None P Q R both one other = absurd other
 told-then (Some b) (Some c) (Some d) P Q R both one other = both b c d one other
 
--- a step, and what holds of each board that it leaves
+-- the same, with what holds of each board that the later step leaves
 pub told-also : {B : Type 0} (o p q : Option B) (P Q R : B → B → Type 0) (I : B → Type 0) → ((b c d : B) → P b c → Q c d → I d → R b d)
     → WhereTold o p P → WhereTold p q Q → IfSome q I → WhereTold o q R
 told-also None p q P Q R I all one other holds = tt
 told-also (Some b) None q P Q R I all one other holds = absurd one
 told-also (Some b) (Some c) None P Q R I all one other holds = absurd other
 told-also (Some b) (Some c) (Some d) P Q R I all one other holds = all b c d one other holds
-
--- the board isn't told
-pub told-never : {B : Type 0} (o p : Option B) (P : B → B → Type 0) → (IsSome o → ⊥) → WhereTold o p P
-told-never None p P never = tt
-told-never (Some b) p P never = absurd (never refl)

@@ -49,5 +49,6 @@ pub record RanAsked (program : Program) (end : Result (Unit {0}) Fault) (board b
   pub lost : OnErr end (HasGivenUp t board board')
 
 -- the same of a seat's last ticket, where that was asked for
-pub record RanLast (program : Program) (end : Result (Unit {0}) Fault) (board board' : BoardState) (seat seat' : SeatState) : Type 0 where
-  pub ran : IsSomeAnd (last_of seat.tickets) (λ t. t.kind ≡ Asked → RanAsked program end board board' seat.told seat'.told t)
+abbrev pub RanLast : Program → Result (Unit {0}) Fault → BoardState → BoardState → SeatState → SeatState → Type 0
+RanLast program end board board' seat seat' =
+    IsSomeAnd (last_of seat.tickets) (λ t. t.kind ≡ Asked → RanAsked program end board board' seat.told seat'.told t)

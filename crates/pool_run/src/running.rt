@@ -75,7 +75,8 @@ fn run_ticket<R: Wait, P: Search, S: Spawner, H: HeldBoard<P, S>>(
     requires { IsTrue (S.told spawner.old).idle }
     ensures idle { IsTrue (S.told spawner.new).idle }
     ensures counts { (S.told spawner.old).faults ≤ (S.told spawner.new).faults }
-    ensures started { OnOk result (HasStarted program.now (S.told spawner.old) (S.told spawner.new) (ticket.now.run ∷ [])) }
+    ensures started { let run = ticket.now.run in
+        OnOk result (HasStarted program.now (S.told spawner.old) (S.told spawner.new) (run ∷ [])) }
     ensures may { MayHaveStarted program.now (S.told spawner.old) (S.told spawner.new) ticket.now.run }
     ensures failed_run { has_failed result ≡ true → (S.told spawner.new).failed_run ≡ Some ticket.now.run }
     ensures rose { has_failed result ≡ true → Rose (S.told spawner.old).faults (S.told spawner.new).faults }

@@ -27,13 +27,12 @@ run_last-requires-clause-some g c = took-some _ _ c.in-Run.ensures.seat
 pub loop-preserved-in-Continue-1 : goal.loop-preserved-in-Continue-1
 loop-preserved-in-Continue-1 g c =
     let ran = c.in_ok-run_last-in-Run.ensures in
-    let taken = told-also _ _ _ _ _ _ _ (taken-so g.P.Search.shown g.P.Search.plain g.S.Spawner.truth c.args.program.now c.args.seat.now c.loop.seat c.next_turn.new.seat)
-    c.loop.invariant.2.board c.in-Run.ensures.turned c.in-Run.ensures.invariant in (
+    let taken = told-also _ _ _ _ _ _ _ (taken-so _ _ _ c.args.program.now c.args.seat.now _ _) c.loop.invariant.2.board c.in-Run.ensures.turned c.in-Run.ensures.invariant in (
       tt,
       tt,
       record {
-        work = ran-on c.args.program.now c.args.seat.now c.loop.seat c.next_turn.new.seat c.run_last.new.seat c.loop.invariant.2.work c.in-Run.ensures.seat ran.ran ran.idle ran.counts;
-        board = told-then _ _ _ _ _ _ (underway-on g.P.Search.shown c.args.program.now c.args.seat.now c.next_turn.new.seat c.run_last.new.seat ran.ran) taken ran.board;
+        work = ran-on c.args.program.now c.args.seat.now _ _ _ c.loop.invariant.2.work c.in-Run.ensures.seat ran.ran ran.idle ran.counts;
+        board = told-then _ _ _ _ _ _ (underway-on _ c.args.program.now c.args.seat.now _ _ ran.ran) taken ran.board;
       },
     )
 
@@ -43,33 +42,32 @@ returns-in_err-run_last-in-Run-clause-seat g c =
     let is = err_from_is_err_and c.from_residual.result c.from_residual.ensures.1 in
     let P : Result (Unit {0}) Fault → Type 0 = λ end. WorkedTo c.args.program.now end c.args.seat.now c.run_last.new.seat in
     subst P (sym (is.1 ∙ ap Err is.2))
-    (ran-to c.args.program.now _ c.args.seat.now c.loop.seat c.next_turn.new.seat c.run_last.new.seat c.loop.invariant.2.work c.in-Run.ensures.seat ran.ran ran.idle ran.counts)
+    (ran-to c.args.program.now _ c.args.seat.now _ _ _ c.loop.invariant.2.work c.in-Run.ensures.seat ran.ran ran.idle ran.counts)
 
 pub returns-in_err-run_last-in-Run-clause-board : goal.returns-in_err-run_last-in-Run-clause-board
 returns-in_err-run_last-in-Run-clause-board g c =
     let ran = c.in_err-run_last-in-Run.ensures in
-    let taken = told-also _ _ _ _ _ _ _ (taken-so g.P.Search.shown g.P.Search.plain g.S.Spawner.truth c.args.program.now c.args.seat.now c.loop.seat c.next_turn.new.seat)
-    c.loop.invariant.2.board c.in-Run.ensures.turned c.in-Run.ensures.invariant in
+    let taken = told-also _ _ _ _ _ _ _ (taken-so _ _ _ c.args.program.now c.args.seat.now _ _) c.loop.invariant.2.board c.in-Run.ensures.turned c.in-Run.ensures.invariant in
     let is = err_from_is_err_and c.from_residual.result c.from_residual.ensures.1 in
     let P : Result (Unit {0}) Fault → Type 0 = λ end. WhereTold (g.H.HeldBoard.board c.args.held.now) (g.H.HeldBoard.board c.run_last.new.held) (λ b b'.
     DroveTo g.P.Search.shown c.args.program.now (driven_by end (is_over g.P.Search.shown b')) b b' c.args.seat.now c.run_last.new.seat) in
     subst P (sym (is.1 ∙ ap Err is.2))
-    (told-then _ _ _ _ _ _ (drove-lost g.P.Search.shown c.args.program.now c.args.seat.now _ c.next_turn.new.seat c.run_last.new.seat ran.ran) taken ran.board)
+    (told-then _ _ _ _ _ _ (drove-lost _ c.args.program.now c.args.seat.now _ _ _ ran.ran) taken ran.board)
 
 pub loop-preserved : goal.loop-preserved
 loop-preserved g c = (
   tt,
   tt,
   record {
-    work = still-at-work c.args.program.now c.args.seat.now c.loop.seat c.next_turn.new.seat c.loop.invariant.2.work c.in-Idle.ensures.seat;
-    board = told-then _ _ _ _ _ _ (underway-idle g.P.Search.shown c.args.program.now c.args.seat.now c.loop.seat c.next_turn.new.seat) c.loop.invariant.2.board c.in-Idle.ensures.turned;
+    work = still-at-work c.args.program.now c.args.seat.now _ _ c.loop.invariant.2.work c.in-Idle.ensures.seat;
+    board = told-then _ _ _ _ _ _ (underway-idle _ c.args.program.now c.args.seat.now _ _) c.loop.invariant.2.board c.in-Idle.ensures.turned;
   },
 )
 
 pub returns-in-Over-clause-board : goal.returns-in-Over-clause-board
 returns-in-Over-clause-board g c =
-    told-then _ _ _ _ _ _ (drove-over g.P.Search.shown c.args.program.now c.args.seat.now c.loop.seat c.next_turn.new.seat) c.loop.invariant.2.board c.in-Over.ensures.turned
+    told-then _ _ _ _ _ _ (drove-over _ c.args.program.now c.args.seat.now _ _) c.loop.invariant.2.board c.in-Over.ensures.turned
 
 pub returns-in-Short-clause-board : goal.returns-in-Short-clause-board
 returns-in-Short-clause-board g c =
-    told-then _ _ _ _ _ _ (drove-short g.P.Search.shown c.args.program.now c.args.seat.now c.loop.seat c.next_turn.new.seat) c.loop.invariant.2.board c.in-Short.ensures.turned
+    told-then _ _ _ _ _ _ (drove-short _ c.args.program.now c.args.seat.now _ _) c.loop.invariant.2.board c.in-Short.ensures.turned
