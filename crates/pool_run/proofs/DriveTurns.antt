@@ -1,5 +1,5 @@
 -- Where a drive stands between two turns, and once its seat took a ticket.
-use Rattle.std.proofs.Common.{arith, ℕ, ◌≡◌, ◌≤◌, ◌++◌, ◌||◌, ◌⊎◌, Bool, true, false, List, [], ◌∷◌, Option, Some, None, All, refl, sym, ap, subst, ◌∙◌, inl, inr, if◌then◌else◌}
+use Rattle.std.proofs.Common.{ℕ, ◌≡◌, ◌++◌, ◌||◌, ◌⊎◌, Bool, true, false, List, [], ◌∷◌, Option, Some, None, All, refl, sym, ap, subst, ◌∙◌, inl, inr, if◌then◌else◌}
 use Rattle.std.specs.Option.{is_some}
 use Rattle.std.proofs.lemmas.List.Elements.{All-head}
 use Rattle.objective.specs.Costs.{Table}
@@ -7,7 +7,6 @@ use Rattle.objective.specs.declared.Micros.{Micros}
 use Rattle.objective.specs.declared.Outcome.{Outcome}
 use Rattle.wrapper_lines.specs.declared.runs.Key.{Key}
 use Rattle.wrapper_lines.specs.declared.runs.Program.{Program}
-use Rattle.outside.specs.ToldStates.{SpawnerTold}
 use Rattle.uncapped.specs.Uncapped.{Run}
 use Rattle.ils_face.specs.declared.asks.Ask.{Ask}
 use Rattle.ils_face.specs.declared.asks.Ask.TheVariants.{Full, Versus, End}
@@ -35,13 +34,10 @@ use Rattle.board_steps.specs.Tickets.{has_ticket}
 use Rattle.board_steps.proofs.GivenTickets.{verdict-open, IsNeededTicket, IsAheadTicket, given}
 use Rattle.pool_run.specs.Drives.{IsAskedTicket, HasMade, MayDrive, is_end, is_over}
 use Rattle.pool_run.specs.Seats.{SeatState, last_of}
-use Rattle.pool_run.specs.Starts.{MayHaveStarted}
 use Rattle.pool_run.specs.Turns.{TookTicket, StayedIdle, is_done}
-use Rattle.pool_run.specs.Works.{HasWorked}
 use Rattle.pool_run.proofs.MadeRuns.{alone, made-none, made-still, made-ticket}
 use Rattle.pool_run.proofs.StartedRuns.{took-last}
 use Rattle.pool_run.proofs.TurnSteps.{KeepsSearch, none-live}
-use Rattle.pool_run.proofs.WorkedSeats.{IsAtWork, begins, worked-more}
 
 -- ---- where a search is at its end
 
@@ -112,43 +108,43 @@ module _ (shown : Rules → List Reply → View) where
 
 -- ---- the state of a drive between two turns
 
--- the seat is at work, no ticket is live, the board isn't stopped, and this was made so far
+-- no ticket is live, the board isn't stopped, and this was made so far
 pub record IsUnderWay (program : Program) (board board' : BoardState) (seat seat' : SeatState) : Type 0 where
-  pub work : IsAtWork program seat seat'
   pub free : board'.live ≡ []
   pub going : board'.stopped ≡ false
   pub made : HasMade program [] (plain_board board) (plain_board board') seat.told seat'.told seat.tickets seat'.tickets
 
 -- at the beginning
-pub underway-begin : (program : Program) (board : BoardState) (seat seat' : SeatState) → MayDrive board seat
-    → seat' ≡ record seat { failed = false; short = false } → IsUnderWay program board board seat seat'
-underway-begin program board seat seat' may dropped =
+pub underway-begin : (program : Program) (seat seat' : SeatState) → seat' ≡ record seat { failed = false; short = false }
+    → (board : BoardState) → MayDrive board → IsUnderWay program board board seat seat'
+underway-begin program seat seat' dropped board may =
     let P : SeatState → Type 0 = λ s. HasMade program [] (plain_board board) (plain_board board) seat.told s.told seat.tickets s.tickets in
     record {
-      work = begins program seat seat' may.idle dropped;
       free = may.free;
       going = may.going;
       made = subst P (sym dropped) (made-none program (plain_board board) seat.told seat.tickets);
     }
 
 -- a turn isn't idle then
-pub idle-never : (shown : Rules → List Reply → View) (program : Program) (board b : BoardState) (b' : PlainBoard) (seat s s' : SeatState)
+idle-never : (shown : Rules → List Reply → View) (program : Program) (seat s s' : SeatState) (board b : BoardState) (b' : PlainBoard)
     → IsUnderWay program board b seat s → StayedIdle shown (plain_board b) b' s s' → ⊥
 unfolding plain_board
-idle-never shown program board b b' seat s s' way stayed = stayed.busy (ap tickets_of way.free)
+idle-never shown program seat s s' board b b' way stayed = stayed.busy (ap tickets_of way.free)
+
+pub underway-idle : (shown : Rules → List Reply → View) (program : Program) (seat s s' : SeatState) (board b c : BoardState)
+    → IsUnderWay program board b seat s → StayedIdle shown (plain_board b) (plain_board c) s s' → IsUnderWay program board c seat s'
+underway-idle shown program seat s s' board b c way stayed = absurd (idle-never shown program seat s s' board b (plain_board c) way stayed)
 
 -- a ticket that was taken for the needed run, which the seat has as its last one
-pub record HasTaken (shown : Rules → List Reply → View) (program : Program) (board b : BoardState) (seat s : SeatState) (t : Ticket) : Type 0 where
-  pub counts : seat.told.faults ≤ s.told.faults
-  pub made : HasMade program (t ∷ []) (plain_board board) (plain_board b) seat.told s.told seat.tickets s.tickets
+pub record HasTaken (shown : Rules → List Reply → View) (program : Program) (board b : BoardState) (seat s : SeatState) : Type 0 where
+  pub ticket : Ticket
+  pub made : HasMade program (ticket ∷ []) (plain_board board) (plain_board b) seat.told s.told seat.tickets s.tickets
   pub taken : AreTaken (plain_board b)
-  pub live : (plain_board b).live ≡ alone t
+  pub live : (plain_board b).live ≡ alone ticket
   pub going : (plain_board b).stopped ≡ false
   pub more : is_over shown b ≡ false
-  pub asked : t.kind ≡ Asked
-  pub last : last_of s.tickets ≡ Some t
-  pub sound : s.failed ≡ false
-  pub worked : (seat' : SeatState) → seat'.tickets ≡ s.tickets → MayHaveStarted program s.told seat'.told t.run → HasWorked program seat seat'
+  pub asked : ticket.kind ≡ Asked
+  pub last : last_of s.tickets ≡ Some ticket
 
 module _ (shown : Rules → List Reply → View) where
   -- without a live ticket only the needed run is given
@@ -171,11 +167,11 @@ module _ (shown : Rules → List Reply → View) where
   over-plain b = refl
 
   -- a seat took a ticket while a drive was under way
-  pub taken-so : (procedure : Rules → Table → Run) (truth : Option (Key → Outcome)) (program : Program) (board b0 b : BoardState) (seat s0 s : SeatState)
-      → IsUnderWay program board b0 seat s0 → (took : TookTicket shown (plain_board b0) (plain_board b) s0 s) → BoardInvariant shown procedure truth b
-      → HasTaken shown program board b seat s took.one.ticket
+  pub taken-so : (procedure : Rules → Table → Run) (truth : Option (Key → Outcome)) (program : Program) (seat s0 s : SeatState) (board b0 b : BoardState)
+      → IsUnderWay program board b0 seat s0 → TookTicket shown (plain_board b0) (plain_board b) s0 s → BoardInvariant shown procedure truth b
+      → HasTaken shown program board b seat s
   unfolding plain_board
-  taken-so procedure truth program board b0 b seat s0 s way took inv =
+  taken-so procedure truth program seat s0 s board b0 b way took inv =
       let t = took.one.ticket in
       let between = took.between in
       let free : between.live ≡ [] = none-live between.live (took.keeps.live ∙ ap tickets_of way.free) in
@@ -192,18 +188,13 @@ module _ (shown : Rules → List Reply → View) where
       let made = made-ticket program (plain_board board) seat.told s0.told seat.tickets s0.tickets between t asked_first before in
       let P : PlainBoard → Type 0 = λ c. HasMade program (t ∷ []) (plain_board board) c seat.told s0.told seat.tickets (s0.tickets ++ t ∷ []) in
       let Q : SeatState → Type 0 = λ x. HasMade program (t ∷ []) (plain_board board) (plain_board b) seat.told x.told seat.tickets x.tickets in
-      let told : s.told ≡ s0.told = ap (λ x. x.told) took.one.list in
       record {
-        counts = omega (arith, way.work.counts, ap (λ x. x.faults) told);
-        taken = inv.taken;
+        ticket = t;
         made = subst Q (sym took.one.list) (subst P (sym after) made);
+        taken = inv.taken;
         live = live;
         going = ap (λ c. c.stopped) after ∙ open_there.going;
         more = ap (λ c. over_by shown c.problem c.replies c.aborted) after ∙ needs-more shown between needed.place needed.cutoff needed.stands;
         asked = kind-needed between t needed;
         last = took-last s0 s took.one;
-        sound = ap (λ x. x.failed) took.one.list ∙ way.work.sound;
-        worked = λ seat' list may.
-            let M : SpawnerTold → Type 0 = λ now. MayHaveStarted program now seat'.told t.run in
-            worked-more program seat s0 seat' t way.work.worked (list ∙ ap (λ x. x.tickets) took.one.list) (subst M told may);
       }

@@ -5,3 +5,4 @@ pub mod DriveTurns
 pub mod DriveEnds
 pub mod DrivenBoards
 pub mod WorkedSeats
+pub mod ToldBoards

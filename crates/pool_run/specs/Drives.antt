@@ -1,5 +1,5 @@
 -- What a seat that drives a board adds to the journal and to its list of tickets, and what that tells.
-use Rattle.std.specs.Prelude.{◌≡◌, ◌≤◌, ◌++◌, ◌||◌, ◌↔◌, Bool, true, false, List, [], ◌∷◌, All, filter, length, map, Option, Some, None, IfSome, IsSome, IsSomeAnd, IsTrue}
+use Rattle.std.specs.Prelude.{◌≡◌, ◌≤◌, ◌++◌, ◌||◌, Bool, true, false, List, [], ◌∷◌, All, filter, length, map, Option, Some, None, IsSome, IsSomeAnd, Result, Ok, Err, if◌then◌else◌}
 use Rattle.std.specs.List.Sorted.{IsNonDecreasing}
 use Rattle.std.specs.Option.{is_some}
 use Rattle.objective.specs.Bounds.{Bounds}
@@ -8,6 +8,8 @@ use Rattle.objective.specs.declared.Answer.{Answer}
 use Rattle.objective.specs.declared.Outcome.{Outcome}
 use Rattle.wrapper_lines.specs.declared.runs.Key.{Key}
 use Rattle.wrapper_lines.specs.declared.runs.Program.{Program}
+use Rattle.outside.specs.declared.faults.Fault.{Fault}
+use Rattle.outside.specs.declared.faults.Fault.TheVariants as fault
 use Rattle.outside.specs.ToldStates.{SpawnerTold}
 use Rattle.uncapped.specs.Procedure.{Question}
 use Rattle.uncapped.specs.Uncapped.{Run}
@@ -31,12 +33,11 @@ use Rattle.board_steps.specs.Problem.{Problem}
 use Rattle.board_steps.specs.ProblemRuns.{key_of, table_of}
 use Rattle.board_steps.specs.RepliedAsks.{quiet_by}
 use Rattle.board_steps.specs.ShownEntries.{ShowsAll, ShowsAborted}
-use Rattle.pool_run.specs.Seats.{SeatState, fault_of, IsFault}
+use Rattle.pool_run.specs.Seats.{SeatState, fault_of}
 use Rattle.pool_run.specs.Starts.{HasStarted}
 use Rattle.pool_run.specs.Turns.{is_take, is_record}
-use Rattle.pool_run.specs.Works.{HasWorked}
 use Rattle.pool_run.specs.declared.driving.Driven.{Driven}
-use Rattle.pool_run.specs.declared.driving.Driven.TheVariants.{Ended, Fault, Memory}
+use Rattle.pool_run.specs.declared.driving.Driven.TheVariants as driven
 
 -- a ticket whose run was made, with what that showed
 pub record Answered : Type 0 where
@@ -87,9 +88,9 @@ pub record AreDueInOrder (limits : Bounds) (T : Table) (asks : List Question) (t
 
 -- the ticket that was taken last and whose run wasn't recorded: none at the end, after a fault the kept one
 abbrev pub IsLeft : Driven → SeatState → List Ticket → Type 0
-IsLeft Ended seat left = left ≡ []
-IsLeft Fault seat left = IsSomeAnd (fault_of seat) (λ t. left ≡ t ∷ [])
-IsLeft Memory seat left = length left ≤ 1
+IsLeft driven.Ended seat left = left ≡ []
+IsLeft driven.Fault seat left = IsSomeAnd (fault_of seat) (λ t. left ≡ t ∷ [])
+IsLeft driven.Memory seat left = length left ≤ 1
 
 -- a seat that drove a board took these tickets, and recorded the answers of all but those that are left; where a truth is
 -- told, the answers are the truth's, and the runs are due at their places
@@ -108,13 +109,13 @@ pub record HasDriven (procedure : Rules → Table → Run) (truth : Option (Key 
   pub shown : IsSome truth → All (IsShown (table_of truth board.problem)) (map run_in answered)
   pub due : IsSome truth → AreDueInOrder board.problem.rules.limits (table_of truth board.problem)
       (quiet_by procedure truth board.problem).asks (tickets_in answered ++ left)
-  pub started : result ≡ Ended → HasStarted program seat.told seat'.told (map (λ a. a.ticket.run) answered)
+  pub started : result ≡ driven.Ended → HasStarted program seat.told seat'.told (map (λ a. a.ticket.run) answered)
 
 -- the drive ended
 abbrev pub has_ended : Driven → Bool
-has_ended Ended = true
-has_ended Fault = false
-has_ended Memory = false
+has_ended driven.Ended = true
+has_ended driven.Fault = false
+has_ended driven.Memory = false
 
 -- nothing more is asked for
 abbrev pub is_end : Ask → Bool
@@ -132,26 +133,25 @@ abbrev pub ShowsAtEnd : Option Cell → View → Run → Run → Type 0
 ShowsAtEnd None view run whole = ShowsAll view run whole
 ShowsAtEnd (Some cell) view run whole = ShowsAborted view run whole
 
--- what holds where a drive begins: no child runs, no ticket is live, and the board isn't stopped
-pub record MayDrive (board : BoardState) (seat : SeatState) : Type 0 where
-  pub idle : IsTrue seat.told.idle
+-- how a drive ends whose turns ended so: a search that is at its end needs no memory
+abbrev pub driven_by : Result (Unit {0}) Fault → Bool → Driven
+driven_by (Ok u) over = driven.Ended
+driven_by (Err fault.Failed) over = driven.Fault
+driven_by (Err fault.Memory) over = if over then driven.Ended else driven.Memory
+
+-- what holds where a drive begins: no ticket is live, and the board isn't stopped
+pub record MayDrive (board : BoardState) : Type 0 where
   pub free : board.live ≡ []
   pub going : board.stopped ≡ false
 
--- what a drive came to
+-- what a drive came to, on the board and by its seat's tickets
 pub record DroveTo (shown : Rules → List Reply → View) (program : Program) (result : Driven) (board board' : BoardState)
     (seat seat' : SeatState) : Type 0 where
-  pub idle : IsTrue seat'.told.idle
-  pub counts : seat.told.faults ≤ seat'.told.faults
   pub left : List Ticket
   pub told : SpawnerTold  -- after the last run that was answered
   pub made : HasMade program left (plain_board board) (plain_board board') seat.told told seat.tickets seat'.tickets
   pub last : IsLeft result seat' left
-  pub now : result ≡ Ended → told ≡ seat'.told
-  pub worked : HasWorked program seat seat'
+  pub now : result ≡ driven.Ended → told ≡ seat'.told
   pub over : has_ended result ≡ is_over shown board'
   pub stopped : has_ended result ≡ false → board'.stopped ≡ true
   pub free : board'.live ≡ []
-  pub fault : IfSome (fault_of seat') (IsFault seat.told seat'.told)
-  pub kept : result ≡ Fault ↔ IsSome (fault_of seat')
-  pub short : result ≡ Memory → seat'.short ≡ true

@@ -1,19 +1,16 @@
--- What the end of a run makes of a board, of a seat and of a drive.
-use Rattle.std.specs.Prelude.{◌≡◌, ◌∷◌, [], IsSomeAnd, OnOk, Some, true, Result, Ok, Err}
+-- What the end of a run makes of a board and of a seat.
+use Rattle.std.specs.Prelude.{◌≡◌, ◌∷◌, [], IsSomeAnd, OnOk, OnErr, Some, true, false, Result, Ok, Err, is_ok}
 use Rattle.objective.specs.declared.Answer.{Answer}
 use Rattle.wrapper_lines.specs.declared.runs.Program.{Program}
 use Rattle.outside.specs.Changes.{has_failed}
 use Rattle.outside.specs.Counts.{Rose}
 use Rattle.outside.specs.declared.faults.Fault.{Fault}
-use Rattle.outside.specs.declared.faults.Fault.TheVariants as fault
 use Rattle.outside.specs.ToldStates.{SpawnerTold}
 use Rattle.board_steps.specs.declared.tickets.Kind.{Kind}
 use Rattle.board_steps.specs.declared.tickets.Kind.TheVariants.{Asked, Ahead}
 use Rattle.board_steps.specs.declared.tickets.Ticket.{Ticket}
 use Rattle.board_steps.specs.Boards.{BoardState, PlainBoard, plain_board}
 use Rattle.board_steps.specs.Steps.{after_lost, after_record, after_stop}
-use Rattle.pool_run.specs.declared.driving.Driven.{Driven}
-use Rattle.pool_run.specs.declared.driving.Driven.TheVariants as driven
 use Rattle.pool_run.specs.Seats.{SeatState, last_of, with_fault}
 use Rattle.pool_run.specs.Starts.{HasStarted, MayHaveStarted}
 
@@ -22,30 +19,36 @@ abbrev pub stopped_for : Kind → PlainBoard → PlainBoard
 stopped_for Asked b = after_stop b
 stopped_for Ahead b = b
 
--- a board after the run of a ticket: its answer is recorded, or it is given up
-abbrev pub board_after : Result Answer Fault → PlainBoard → Ticket → PlainBoard
-board_after (Ok a) b t = after_record b t a
-board_after (Err f) b t = stopped_for t.kind (after_lost b t)
+-- an answer of the ticket was recorded
+pub record HasAnswered (t : Ticket) (board board' : BoardState) : Type 0 where
+  pub answer : Answer
+  pub after : plain_board board' ≡ after_record (plain_board board) t answer
 
--- a seat after a run, whose spawner tells this now
-abbrev pub seat_after : Result Answer Fault → SeatState → SpawnerTold → SeatState
-seat_after (Ok a) seat told = record seat { told = told }
+-- the ticket was given up
+pub record HasGivenUp (t : Ticket) (board board' : BoardState) : Type 0 where
+  pub after : plain_board board' ≡ stopped_for t.kind (after_lost (plain_board board) t)
+
+-- a seat after a run, whose spawner tells this now: it keeps why a needed run can't be made
+abbrev pub seat_after : Result (Unit {0}) Fault → SeatState → SpawnerTold → SeatState
+seat_after (Ok u) seat told = record seat { told = told }
 seat_after (Err f) seat told = with_fault f (record seat { told = told })
 
--- how a drive ends where a run can't be made
-abbrev pub ended_by : Fault → Driven
-ended_by fault.Failed = driven.Fault
-ended_by fault.Memory = driven.Memory
+-- the run of a ticket was made or not: no other child was started, and it is a fault only where the ticket was asked for
+pub record RanTicket (program : Program) (end : Result (Unit {0}) Fault) (seat seat' : SeatState) (t : Ticket) : Type 0 where
+  pub after : seat' ≡ seat_after end seat seat'.told
+  pub may : MayHaveStarted program seat.told seat'.told t.run
+  pub asked : is_ok end ≡ false → t.kind ≡ Asked
+  pub failed : has_failed end ≡ true → seat'.told.failed_run ≡ Some t.run
+  pub rose : has_failed end ≡ true → Rose seat.told.faults seat'.told.faults
 
--- the run of a ticket was made and ended so: no other child was started, and with an answer its own was
-pub record RanTicket (program : Program) (end : Result Answer Fault) (board board' : BoardState)
+-- the run of a ticket that was asked for was made, and its answer is recorded; or it can't be made, and the ticket is given up
+pub record RanAsked (program : Program) (end : Result (Unit {0}) Fault) (board board' : BoardState)
     (told told' : SpawnerTold) (t : Ticket) : Type 0 where
-  pub after : plain_board board' ≡ board_after end (plain_board board) t
+  pub answered : OnOk end (HasAnswered t board board')
   pub started : OnOk end (HasStarted program told told' (t.run ∷ []))
-  pub may : MayHaveStarted program told told' t.run
-  pub failed : has_failed end ≡ true → told'.failed_run ≡ Some t.run
-  pub rose : has_failed end ≡ true → Rose told.faults told'.faults
+  pub lost : OnErr end (HasGivenUp t board board')
 
--- the run of a seat's last ticket was made and ended so
-abbrev pub RanLast : Program → Result Answer Fault → BoardState → BoardState → SeatState → SeatState → Type 0
-RanLast program end board board' seat seat' = IsSomeAnd (last_of seat.tickets) (RanTicket program end board board' seat.told seat'.told)
+-- the same of a seat's last ticket, where that was asked for
+abbrev pub RanLast : Program → Result (Unit {0}) Fault → BoardState → BoardState → SeatState → SeatState → Type 0
+RanLast program end board board' seat seat' =
+    IsSomeAnd (last_of seat.tickets) (λ t. t.kind ≡ Asked → RanAsked program end board board' seat.told seat'.told t)

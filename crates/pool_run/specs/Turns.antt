@@ -1,5 +1,6 @@
 -- What a seat does with the board between two runs.
 use Rattle.std.specs.Prelude.{◌≡◌, ◌++◌, Bool, true, false, not, List, [], ◌∷◌, filter}
+use Rattle.std.specs.Option.{is_some}
 use Rattle.ils_face.specs.declared.asks.Reply.{Reply}
 use Rattle.ils_face.specs.Rules.{Rules}
 use Rattle.ils_face.specs.Views.{View}
@@ -9,8 +10,8 @@ use Rattle.board_steps.specs.declared.answers.BoardVerdict.{BoardVerdict}
 use Rattle.board_steps.specs.declared.answers.BoardVerdict.TheVariants as board_verdict
 use Rattle.board_steps.specs.declared.answers.Taken.TheVariants as taken
 use Rattle.board_steps.specs.declared.events.Event.{Event}
-use Rattle.board_steps.specs.declared.events.Event.TheVariants.{Take, Record}
 use Rattle.board_steps.specs.declared.tickets.Ticket.{Ticket}
+use Rattle.board_steps.specs.Events
 use Rattle.board_steps.specs.Numbering.{tickets_of}
 use Rattle.board_steps.specs.BoardVerdicts.{board_verdict_of}
 use Rattle.board_steps.specs.Steps.{taken_on, with_ticket}
@@ -20,13 +21,11 @@ use Rattle.pool_run.specs.declared.turns.Next.TheVariants as next
 
 -- the event took a ticket
 abbrev pub is_take : Event → Bool
-is_take (Take number kind cell cutoff asked_at) = true
-is_take e = false
+is_take e = is_some (Events.taken e)
 
 -- the event recorded an answer
 abbrev pub is_record : Event → Bool
-is_record (Record number answer) = true
-is_record e = false
+is_record e = is_some (Events.recorded e)
 
 -- the events that came neither took a ticket nor recorded an answer, and the problem is the same
 pub record AddsNoRun (before after : PlainBoard) : Type 0 where

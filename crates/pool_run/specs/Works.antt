@@ -1,10 +1,13 @@
--- What a seat does beside other seats, and what it started.
-use Rattle.std.specs.Prelude.{◌≡◌, ◌++◌, Bool, true, false, List, filter, map}
+-- What a seat does turn by turn, and what it started.
+use Rattle.std.specs.Prelude.{◌≡◌, ◌≤◌, ◌++◌, ◌↔◌, Bool, true, List, filter, map, Result, Err, IfSome, IsSome, IsTrue}
 use Rattle.wrapper_lines.specs.declared.runs.Program.{Program}
 use Rattle.wrapper_lines.specs.declared.runs.Run.{Run}
+use Rattle.outside.specs.Changes.{has_failed}
+use Rattle.outside.specs.declared.faults.Fault.{Fault}
+use Rattle.outside.specs.declared.faults.Fault.TheVariants.{Memory}
 use Rattle.board_steps.specs.declared.tickets.Ticket.{Ticket}
-use Rattle.pool_run.specs.Seats.{SeatState, IsFault}
-use Rattle.pool_run.specs.Starts.{HasStarted, MayHaveStarted}
+use Rattle.pool_run.specs.Seats.{SeatState, IsFault, fault_of}
+use Rattle.pool_run.specs.Starts.{HasStarted}
 use Rattle.pool_run.specs.Turns.{TookOne}
 use Rattle.pool_run.specs.declared.turns.Next.{Next}
 use Rattle.pool_run.specs.declared.turns.Next.TheVariants as next
@@ -35,10 +38,11 @@ SeatTurned next.Idle seat seat' = seat' ≡ seat
 SeatTurned next.Over seat seat' = seat' ≡ seat
 SeatTurned next.Short seat seat' = seat' ≡ record seat { short = true }
 
--- the run of a seat's last ticket was made beside other seats, and the seat goes on or not; where the seat kept no fault
--- before, it keeps one only of this ticket
-pub record RanBeside (program : Program) (goes_on : Bool) (seat seat' : SeatState) (t : Ticket) : Type 0 where
-  pub tickets : seat'.tickets ≡ seat.tickets
-  pub started : MayHaveStarted program seat.told seat'.told t.run
-  pub same : goes_on ≡ true → seat'.failed ≡ seat.failed
-  pub fault : seat.failed ≡ false → seat'.failed ≡ true → IsFault seat.told seat'.told t
+-- what a seat came to that took turns and made their runs until this end
+pub record WorkedTo (program : Program) (end : Result (Unit {0}) Fault) (seat seat' : SeatState) : Type 0 where
+  pub idle : IsTrue seat'.told.idle
+  pub counts : seat.told.faults ≤ seat'.told.faults
+  pub worked : HasWorked program seat seat'
+  pub fault : IfSome (fault_of seat') (IsFault seat.told seat'.told)
+  pub kept : has_failed end ≡ true ↔ IsSome (fault_of seat')
+  pub short : end ≡ Err Memory → seat'.short ≡ true

@@ -1,8 +1,10 @@
 //! Seats: each runs one child at a time, by the tickets of a board.
 #![tactic(auto)]
 
-mod children;
 mod driving;
+mod held_boards;
+mod locked_boards;
+mod running;
 mod runs;
 mod seat;
 mod turns;

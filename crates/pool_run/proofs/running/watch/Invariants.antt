@@ -1,5 +1,5 @@
 use Rattle.std.proofs.Common.{◌≡◌, ◌≤◌, false}
-use Rattle.pool_run.proofs.runs.watch.Given as goal
+use Rattle.pool_run.proofs.running.watch.Given as goal
 
 -- the child runs still, nothing further was started, and nothing was told of a failure
 abbrev pub invariant-loop : goal.invariant-loop
