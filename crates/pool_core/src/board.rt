@@ -11,7 +11,7 @@ ghost use Rattle.ils_face.specs.Rules.{AreRules};
 ghost use Rattle.board_steps.specs.Ledgers.{unmarked};
 ghost use Rattle.board_steps.specs.Tickets.{found_in, marked, standing_of};
 ghost use Rattle.pool_core.specs.DecidedAsks.{IsVerdict};
-ghost use Rattle.pool_core.specs.Endings.{IsEnding, ShowsTruth};
+ghost use Rattle.pool_core.specs.Endings.{IsEnding, IsTrueAbort, ShowsTruth};
 ghost use Rattle.pool_core.specs.OpenBoards.{IsRunnableAt};
 
 use crate::present_asks::verdict_by;
@@ -156,11 +156,13 @@ impl<P: Search, S: Spawner> Board<P, S> {
 
     /// Whether the search is at its end. Where the truth is told, the entries that are shown are at
     /// any time the first ones of the procedure over it, where each abort counts as unsolved; at the
-    /// end they are all of them, and after an abort the procedure's own are the first of them.
-    /// Takes no memory.
+    /// end they are all of them, and after an abort the procedure's own are the first of them. The
+    /// run of a cell that it ended at is then the first one of the present ask that aborts. Takes no
+    /// memory.
     pub fn ending(&self) -> Ending<'_>
         ensures ending { IsEnding P.shown self.now result }
         ensures shows { IsSome S.truth → ShowsTruth P.shown P.plain S.truth self.now result }
+        ensures aborts { IsSome S.truth → IsTrueAbort P.shown S.truth self.now result }
     {
         self.is_board();
         self.present_ending()
