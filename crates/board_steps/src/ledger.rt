@@ -5,6 +5,7 @@ ghost use Rattle.std.specs.List.{list_any, sum_by};
 ghost use Rattle.indexmap.specs.IndexSet.{spare};
 ghost use Rattle.board_steps.specs.Tickets;
 ghost use Rattle.board_steps.specs.UnwantedRuns;
+ghost use Rattle.board_steps.specs.UnwantedRuns.{all_unwanted};
 ghost use Rattle.board_steps.specs.Ledgers;
 ghost use Rattle.board_steps.specs.Ledgers.{events_of, events_kept};
 
@@ -132,8 +133,8 @@ fn mark_live(live: &mut Vec<LiveTicket>)
 /// Marks a live ticket.
 fn mark(l: &mut LiveTicket, journal: &mut Vec<Event>)
     requires { length journal.old.items + events_of l.old ≤ vec_capacity journal.old }
-    ensures marked { l.new ≡ Tickets.marked_if UnwantedRuns.all_unwanted l.old }
-    ensures journal { journal.new.items ≡ journal.old.items ++ Tickets.mark_event UnwantedRuns.all_unwanted l.old }
+    ensures marked { l.new ≡ Tickets.marked_if all_unwanted l.old }
+    ensures journal { journal.new.items ≡ journal.old.items ++ Tickets.mark_event all_unwanted l.old }
     ensures room { length journal.new.items + events_of l.new ≤ length journal.old.items + events_of l.old }
     ensures capacity { vec_capacity journal.new ≡ vec_capacity journal.old }
 {
@@ -184,8 +185,8 @@ fn mark_each_unwanted(
 /// Marks each of these.
 fn mark_each(live: &mut Vec<LiveTicket>, journal: &mut Vec<Event>)
     requires { length journal.old.items + sum_by events_of live.old.items ≤ vec_capacity journal.old }
-    ensures marked { live.new.items ≡ map (Tickets.marked_if UnwantedRuns.all_unwanted) live.old.items }
-    ensures journal { journal.new.items ≡ journal.old.items ++ Tickets.mark_events UnwantedRuns.all_unwanted live.old.items }
+    ensures marked { live.new.items ≡ map (Tickets.marked_if all_unwanted) live.old.items }
+    ensures journal { journal.new.items ≡ journal.old.items ++ Tickets.mark_events all_unwanted live.old.items }
     ensures room { length journal.new.items + sum_by events_of live.new.items
         ≤ length journal.old.items + sum_by events_of live.old.items }
     ensures capacity { vec_capacity journal.new ≡ vec_capacity journal.old }
@@ -358,8 +359,8 @@ impl Ledger {
     /// Marks every live ticket, and tells how many newly. Takes no memory.
     #[tactic(auto, unfolding(crate::specs::Ledgers::events_kept))]
     pub fn mark_all(&mut self) -> usize
-        ensures count { result ≡ length (Tickets.mark_events UnwantedRuns.all_unwanted self.old.live) }
-        ensures marked { self.new ≡ Ledgers.with_marks self.old UnwantedRuns.all_unwanted self.new.spare }
+        ensures count { result ≡ length (Tickets.mark_events all_unwanted self.old.live) }
+        ensures marked { self.new ≡ Ledgers.with_marks self.old all_unwanted self.new.spare }
     {
         let before = self.journal.len();
         mark_each(&mut self.live, &mut self.journal);
