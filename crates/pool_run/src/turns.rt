@@ -91,8 +91,7 @@ pub(crate) fn next_turn<R: Wait, P: Search, S: Spawner>(
     board: &mut Board<P, S>,
     seat: &mut Seat<S>,
 ) -> Next
-    ensures turned { HasTurned P.shown result board.old board.new seat.old seat.new }
-    ensures told { seat.new.told ≡ seat.old.told }
+    ensures { HasTurned P.shown result board.old board.new seat.old seat.new }
 {
     match take_turn(rt, board, seat) {
         Ok(next) => next,
