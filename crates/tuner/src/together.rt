@@ -129,10 +129,9 @@ fn conclude<R: Wait, P: Search, O: Sink, S: Spawner>(
     if is_over(board) {
         return report_ending(alloc, task, board, out);
     }
-    match first_fault(alloc, board, seats) {
-        Ok(Some(number)) => report_kept(alloc, task, board, number, seats, out),
-        Ok(None) => go_on(rt, alloc, task, board, out, seats),
-        Err(_) => report_no_memory(alloc, task, board, out),
+    match first_fault(board, seats) {
+        Some(number) => report_kept(alloc, task, board, number, seats, out),
+        None => go_on(rt, alloc, task, board, out, seats),
     }
 }
 
@@ -145,7 +144,8 @@ pub(crate) fn run_search<R: Threads + Wait + Sync, P: Search + Send, O: Sink, S:
     seats: &mut [Seat<S>],
 ) -> Status
     requires procedure { IsProcedureOf task.now.approach P.plain }
-    requires seats { AreSeatsOf task.now seats.old }
+    requires all { length seats.old ≡ task.now.problem.rules.workers }
+    requires idle { AreIdle seats.old }
     ensures idle { AreIdle seats.new }
     ensures ending { (call : Call) → RunsOn call task.now S.truth seats.old seats.new
         → Conducted call (O.told out.old) (O.told out.new) result }
