@@ -17,13 +17,12 @@ use Rattle.ils_face.specs.Traces.{IsFinal, question_of}
 use Rattle.ils_face.specs.Views.{View}
 use Rattle.run_cache.specs.declared.cell.Cell.{Cell}
 use Rattle.capping.specs.Decisions.{place_count}
-use Rattle.board_steps.proofs.AbortedBoards.{IsFirstAborting}
 use Rattle.board_steps.specs.BoardVerdicts.{config_of}
 use Rattle.board_steps.specs.Problem.{Problem}
 use Rattle.board_steps.specs.ProblemRuns.{table_of}
 use Rattle.board_steps.specs.RepliedAsks.{quiet_by}
 use Rattle.board_steps.specs.ShownEntries.{true_by, ShowsAll, ShowsAborted}
-use Rattle.tuner.specs.AbortCauses.{IsCell, AbortsAt}
+use Rattle.tuner.specs.AbortCauses.{IsCell}
 use Rattle.tuner.specs.Calls.{Call}
 use Rattle.tuner.specs.CallStarts.{StartsOf}
 use Rattle.tuner.specs.Causes.{CauseOf}
@@ -127,10 +126,3 @@ aborted_cell problem (Full θ n) cell asked config first within =
 aborted_cell problem (Versus θ n bound) cell asked config first within =
     record { sound = rw config asked.config; first = first; last = omega (arith, within, asked.within) }
 aborted_cell problem End cell asked config first within = absurd (omega (arith, first, within))
-
--- the question comes to its run, which aborts first
-pub aborts_at : (limits : Bounds) (T : Table) (ask : Ask) (cell : Cell) → cell.place ≤ place_count ask → IsSomeAnd (question_of ask) (IsFirstAborting limits T cell)
-    → IsSomeAnd (question_of ask) (AbortsAt limits T cell)
-aborts_at limits T (Full θ n) cell within h = record { config = h.config; place = within; first = h.first }
-aborts_at limits T (Versus θ n bound) cell within h = record { config = h.config; place = within; first = h.first }
-aborts_at limits T End cell within h = absurd h
