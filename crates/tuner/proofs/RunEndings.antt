@@ -58,19 +58,19 @@ said_as out out' end result text (unwritten is part badly) = inr (ap may_end_any
 said_as out out' end result text (no_memory is part) = inr (ap may_end_any_call is)
 
 -- where that is one that any call may have, so is the answer
-unsaid_as : (end result : Status) → may_end_any_call end ≡ true → EndsAs end result → may_end_any_call result ≡ true
-unsaid_as end result unsaid (inl is) = ap may_end_any_call is ∙ unsaid
-unsaid_as end result unsaid (inr is) = is
+may_end_as : (end result : Status) → may_end_any_call end ≡ true → EndsAs end result → may_end_any_call result ≡ true
+may_end_as end result may (inl is) = ap may_end_any_call is ∙ may
+may_end_as end result may (inr is) = is
 
 -- so is a text that was to be made
 pub reported_as : (out out' : SinkTold) (result end : Status) (text : List ℕ) → Reported out out' result end text → EndsAs end result
 reported_as out out' result end text (made said) = said_as out out' end result text said
 reported_as out out' result end text (not_made said) =
-    inr (unsaid_as status.NoMemory result refl (said_as out out' status.NoMemory result no_memory_line said))
+    inr (may_end_as status.NoMemory result refl (said_as out out' status.NoMemory result no_memory_line said))
 
 -- want of memory is said with an answer that any call may have
-pub reported_unsaid : (out out' : SinkTold) (result : Status) (text : List ℕ) → Reported out out' result status.NoMemory text → may_end_any_call result ≡ true
-reported_unsaid out out' result text h = unsaid_as status.NoMemory result refl (reported_as out out' result status.NoMemory text h)
+pub reported_no_memory : (out out' : SinkTold) (result : Status) (text : List ℕ) → Reported out out' result status.NoMemory text → may_end_any_call result ≡ true
+reported_no_memory out out' result text h = may_end_as status.NoMemory result refl (reported_as out out' result status.NoMemory text h)
 
 -- ---- what is shown, by the uncapped procedure
 
