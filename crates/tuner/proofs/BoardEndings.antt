@@ -30,9 +30,10 @@ use Rattle.board_steps.specs.ShownEntries.{true_by, ShowsAll, ShowsAborted}
 use Rattle.board_steps.proofs.DueTickets.{due-taken, place-taken}
 use Rattle.board_steps.proofs.RepliedAsks.{present-ask}
 use Rattle.board_steps.proofs.ShownEntries.{earlier-entries-shown}
-use Rattle.board_steps.proofs.ToldEntries.{told-abort, told-entries}
+use Rattle.board_steps.proofs.ToldEntries.{told-entries}
+use Rattle.pool_core.specs.Endings.{AbortsAt, AbortsFirst}
 use Rattle.pool_run.specs.Drives.{IsAskedTicket, IsDueTicket}
-use Rattle.tuner.specs.AbortCauses.{IsCell, AbortsAt, IsAbortCause}
+use Rattle.tuner.specs.AbortCauses.{IsCell, IsAbortCause}
 use Rattle.tuner.specs.Calls.{Call}
 use Rattle.tuner.specs.CallStarts.{StartsOf}
 use Rattle.tune_front.specs.RefusalLines.{no_memory_line}
@@ -47,7 +48,7 @@ use Rattle.tuner.specs.Tasks.{procedure_of, quiet_run, asks_over, ask_over}
 use Rattle.tune_front.specs.declared.status.Status.{Status}
 use Rattle.tune_front.specs.declared.status.Status.TheVariants as status
 use Rattle.tune_front.specs.declared.task.Task.{Task}
-use Rattle.tuner.proofs.RunEndings.{reported, is_trajectory, is_stopped, aborted_cell, aborts_at, quiet_is}
+use Rattle.tuner.proofs.RunEndings.{reported, is_trajectory, is_stopped, aborted_cell, quiet_is}
 
 -- what holds of a search holds by the rules and the replies of its board
 pub by_board : (F : Rules → List Reply → Type 0) (own rules : Rules) (given replies : List Reply) → own ≡ rules → given ≡ replies → F own given → F rules replies
@@ -100,10 +101,10 @@ module _ (call : Call) (task : Task) (truth : Option (Key → Outcome)) (shown :
   module _ (inv : BoardInvariant shown procedure truth b)
       (follows : (rules : Rules) (T : Table) → AreRules rules → Follows (shown rules) (sums_under rules T) (procedure rules T)) where
     -- the cell that is set as aborted, at the present ask
-    abort_on : (cell : Cell) → b.aborted ≡ Some cell → IsAsk b.problem.rules view.ask → IsAbortCause b.problem truth (ask_over truth own (length b.replies)) cell
+    abort_on : (cell : Cell) → b.aborted ≡ Some cell → IsAsk b.problem.rules view.ask → (IsSome truth → AbortsFirst shown truth b cell)
+        → IsAbortCause b.problem truth (ask_over truth own (length b.replies)) cell
     unfolding plain_board
-    abort_on cell is asked =
-        let at = inv.aborting.at cell is in
+    abort_on cell is asked first =
         let limits = b.problem.rules.limits in
         let T = table_of truth b.problem in
         let A : Option Question → Type 0 = λ o. IsSomeAnd o (AbortsAt limits T cell) in
@@ -111,23 +112,22 @@ module _ (call : Call) (task : Task) (truth : Option (Key → Outcome)) (shown :
         record {
           in_problem = sound_abort truth shown procedure b inv cell is asked;
           aborts = λ some.
-              let here : A (question_of view.ask) = aborts_at limits T view.ask cell at.within (told-abort shown procedure truth b cell is some inv) in
               let there : A (slice_get (quiet_by procedure truth b.problem).asks (length b.replies)) =
-              subst A (present-ask procedure truth shown follows (plain_board b) inv.ruled (inv.replies some)) here in
+              subst A (present-ask procedure truth shown follows (plain_board b) inv.ruled (inv.replies some)) (first some) in
               subst B (quiet_is own truth procedure is_board.procedure) there;
         }
 
     -- a child aborted the search
-    pub aborted_call : (cell : Cell) → b.aborted ≡ Some cell → IsAsk b.problem.rules view.ask
+    pub aborted_call : (cell : Cell) → b.aborted ≡ Some cell → IsAsk b.problem.rules view.ask → (IsSome truth → AbortsFirst shown truth b cell)
         → (IsSome truth → ShowsAborted view (true_by procedure truth b.problem) (quiet_by procedure truth b.problem))
         → Reported out out' result (status.Aborted cell) (lines_with b.problem.rules.space view.entries (aborted_line b.problem.rules.space cell.place cell.config))
         → Conducted call out out' result
-    aborted_call cell is asked shows said =
+    aborted_call cell is asked first shows said =
         let F : Option (Key → Outcome) → Type 0 = λ t. IsStoppedSearch own t view.entries in
         let G : Option (Key → Outcome) → Type 0 = λ t. IsAbortCause b.problem t (ask_over t own (length b.replies)) cell in
         let stopped : F call.truth = subst F (sym runs.tells) (is_stopped own truth procedure is_board.procedure view shows) in
         reported call out out' result (status.Aborted cell) _
-        (record { task = own; run = runs_own.run; number = length b.replies; abort = subst G (sym runs.tells) (abort_on cell is asked); ended = stopped.aborted })
+        (record { task = own; run = runs_own.run; number = length b.replies; abort = subst G (sym runs.tells) (abort_on cell is asked first); ended = stopped.aborted })
         tt
         (record { task = own; stated = runs_own.run.stated; entries = view.entries; stopped = stopped; lines = refl })
         said

@@ -1,6 +1,6 @@
 -- How the top call ends, by its branches.
-use Rattle.std.proofs.Common.{ℕ, zero, suc, ◌≡◌, ◌<◌, List, [], ◌∷◌, Option, Some, None, Ok, length, get_or, set, refl, sym, ap, ◌∙◌, arith}
-use Rattle.std.specs.Prelude.{IfSome, slice_get}
+use Rattle.std.proofs.Common.{ℕ, ◌≡◌, ◌<◌, List, Option, Some, None, Ok, length, refl, sym, ap, ◌∙◌}
+use Rattle.std.specs.Prelude.{IfSome}
 use Rattle.objective.specs.declared.Outcome.{Outcome}
 use Rattle.wrapper_lines.specs.declared.runs.Key.{Key}
 use Rattle.outside.specs.ToldStates.{SinkTold}
@@ -16,7 +16,6 @@ use Rattle.tuner.specs.Causes.{IsBadFile, IsUnread}
 use Rattle.tune_front.specs.RefusalLines.{seats_line}
 use Rattle.tune_front.specs.SaidTexts.{Reported}
 use Rattle.tuner.specs.Conducted.{Conducted, IsAbout, Runs}
-use Rattle.tuner.specs.ReadyToDrive.{HasSeat}
 use Rattle.tune_front.specs.Readings.{Contents, Reading, Reads, Bad, Gives, words_reading, file_by, task_by, ◌>>=◌}
 use Rattle.tune_front.specs.Refusals.{IsCause, IsNext, ReportsMisuse, ReportsRefusal}
 use Rattle.tune_front.specs.declared.reading.refusal.Refusal.{Refusal}
@@ -69,29 +68,7 @@ ending_unseated call out out' result task asked seats stated workers all fewer s
     reported call out out' result (status.TooFewSeats asked seats) _
     (record { task = task; stated = stated; workers = workers; all = sym all; fewer = fewer }) tt refl said
 
-first_of : (seats : List SeatState) (d : SeatState) → 0 < length seats → slice_get seats 0 ≡ Some (get_or seats 0 d)
-first_of [] d some = absurd (omega arith)
-first_of (s ∷ later) d some = refl
-
-new_first : (seats : List SeatState) (after : SeatState) → 0 < length seats → slice_get (set seats 0 after) 0 ≡ Some after
-new_first [] after some = absurd (omega arith)
-new_first (s ∷ later) after some = refl
-
 -- a call of this task that has enough seats runs it
 pub runs_about : (call : Call) (task : Task) (truth : Option (Key → Outcome)) (seats seats' : List SeatState)
     → IsAbout call task truth seats seats' → IsSeated (length seats) task → Runs call task truth
 runs_about call task truth seats seats' h seated = record { run = record { stated = h.stated; seated = rw h.was seated }; tells = h.tells }
-
--- the first of some seats, before and after
-pub has_first : (call : Call) (task : Task) (truth : Option (Key → Outcome)) (seats : List SeatState) (d before after : SeatState)
-    → IsAbout call task truth seats (set seats 0 after) → 0 < length seats → before ≡ get_or seats 0 d → HasSeat call 0 before after
-has_first call task truth seats d before after h some same = record {
-  was = ap (λ s. slice_get s 0) h.was ∙ first_of seats d some ∙ ap Some (sym same);
-  is = ap (λ s. slice_get s 0) h.is ∙ new_first seats after some;
-}
-
--- what holds of each element and of the new first one
-pub all_set_first : {A : Type 0} (P : A → Type 0) (xs : List A) (y : A) → ((k : ℕ) (d : A) → k < length xs → P (get_or xs k d)) → P y → (k : ℕ) (d : A) → k < length (set xs 0 y) → P (get_or (set xs 0 y) k d)
-all_set_first P [] y all first k d h = absurd (omega arith)
-all_set_first P (x ∷ xs) y all first zero d h = first
-all_set_first P (x ∷ xs) y all first (suc k) d h = all (suc k) d h

@@ -6,3 +6,4 @@ mod CallEndings
 mod SeatsTogether
 mod KeptFaults
 mod TakenTickets
+mod CellKeys

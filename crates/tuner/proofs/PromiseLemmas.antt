@@ -102,15 +102,15 @@ said_whole words files truth seats out out' end result s text wanted (whole same
     let P : Status → Type 0 = λ s. IsTextOf words files truth seats s text in
     (subst P (sym same ∙ e) wanted, taken)
 said_whole words files truth seats out out' end result s text wanted (unwritten same part bad) e h =
-    absurd (let unsaid : may_end_any_call s ≡ true = ap may_end_any_call (sym e ∙ same) in cc)
+    absurd (let may : may_end_any_call s ≡ true = ap may_end_any_call (sym e ∙ same) in cc)
 said_whole words files truth seats out out' end result s text wanted (no_memory same part) e h =
-    absurd (let unsaid : may_end_any_call s ≡ true = ap may_end_any_call (sym e ∙ same) in cc)
+    absurd (let may : may_end_any_call s ≡ true = ap may_end_any_call (sym e ∙ same) in cc)
 
 -- what is said of an answer's whole text and of what the output took
 at_whole : (call : Call) (out out' : SinkTold) (result s : Status) → Conducted call out out' result → result ≡ s → may_end_any_call s ≡ false
     → (P : Type 0) → ((text : List ℕ) → IsTextOf call.words call.files call.truth call.seats' s text → Took out out' text → P) → P
-at_whole call out out' result s h e unsaid P f =
-    let both = said_whole call.words call.files call.truth call.seats' out out' h.end result s h.text h.wanted h.said e unsaid in
+at_whole call out out' result s h e never P f =
+    let both = said_whole call.words call.files call.truth call.seats' out out' h.end result s h.text h.wanted h.said e never in
     f h.text both.0 both.1
 
 -- the headline

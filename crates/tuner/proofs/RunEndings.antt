@@ -17,13 +17,12 @@ use Rattle.ils_face.specs.Traces.{IsFinal, question_of}
 use Rattle.ils_face.specs.Views.{View}
 use Rattle.run_cache.specs.declared.cell.Cell.{Cell}
 use Rattle.capping.specs.Decisions.{place_count}
-use Rattle.board_steps.proofs.AbortedBoards.{IsFirstAborting}
 use Rattle.board_steps.specs.BoardVerdicts.{config_of}
 use Rattle.board_steps.specs.Problem.{Problem}
 use Rattle.board_steps.specs.ProblemRuns.{table_of}
 use Rattle.board_steps.specs.RepliedAsks.{quiet_by}
 use Rattle.board_steps.specs.ShownEntries.{true_by, ShowsAll, ShowsAborted}
-use Rattle.tuner.specs.AbortCauses.{IsCell, AbortsAt}
+use Rattle.tuner.specs.AbortCauses.{IsCell}
 use Rattle.tuner.specs.Calls.{Call}
 use Rattle.tuner.specs.CallStarts.{StartsOf}
 use Rattle.tuner.specs.Causes.{CauseOf}
@@ -59,19 +58,19 @@ said_as out out' end result text (unwritten is part badly) = inr (ap may_end_any
 said_as out out' end result text (no_memory is part) = inr (ap may_end_any_call is)
 
 -- where that is one that any call may have, so is the answer
-unsaid_as : (end result : Status) → may_end_any_call end ≡ true → EndsAs end result → may_end_any_call result ≡ true
-unsaid_as end result unsaid (inl is) = ap may_end_any_call is ∙ unsaid
-unsaid_as end result unsaid (inr is) = is
+may_end_as : (end result : Status) → may_end_any_call end ≡ true → EndsAs end result → may_end_any_call result ≡ true
+may_end_as end result may (inl is) = ap may_end_any_call is ∙ may
+may_end_as end result may (inr is) = is
 
 -- so is a text that was to be made
 pub reported_as : (out out' : SinkTold) (result end : Status) (text : List ℕ) → Reported out out' result end text → EndsAs end result
 reported_as out out' result end text (made said) = said_as out out' end result text said
 reported_as out out' result end text (not_made said) =
-    inr (unsaid_as status.NoMemory result refl (said_as out out' status.NoMemory result no_memory_line said))
+    inr (may_end_as status.NoMemory result refl (said_as out out' status.NoMemory result no_memory_line said))
 
 -- want of memory is said with an answer that any call may have
-pub reported_unsaid : (out out' : SinkTold) (result : Status) (text : List ℕ) → Reported out out' result status.NoMemory text → may_end_any_call result ≡ true
-reported_unsaid out out' result text h = unsaid_as status.NoMemory result refl (reported_as out out' result status.NoMemory text h)
+pub reported_no_memory : (out out' : SinkTold) (result : Status) (text : List ℕ) → Reported out out' result status.NoMemory text → may_end_any_call result ≡ true
+reported_no_memory out out' result text h = may_end_as status.NoMemory result refl (reported_as out out' result status.NoMemory text h)
 
 -- ---- what is shown, by the uncapped procedure
 
@@ -127,10 +126,3 @@ aborted_cell problem (Full θ n) cell asked config first within =
 aborted_cell problem (Versus θ n bound) cell asked config first within =
     record { sound = rw config asked.config; first = first; last = omega (arith, within, asked.within) }
 aborted_cell problem End cell asked config first within = absurd (omega (arith, first, within))
-
--- the question comes to its run, which aborts first
-pub aborts_at : (limits : Bounds) (T : Table) (ask : Ask) (cell : Cell) → cell.place ≤ place_count ask → IsSomeAnd (question_of ask) (IsFirstAborting limits T cell)
-    → IsSomeAnd (question_of ask) (AbortsAt limits T cell)
-aborts_at limits T (Full θ n) cell within h = record { config = h.config; place = within; first = h.first }
-aborts_at limits T (Versus θ n bound) cell within h = record { config = h.config; place = within; first = h.first }
-aborts_at limits T End cell within h = absurd h

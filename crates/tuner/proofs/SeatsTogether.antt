@@ -14,7 +14,7 @@ use Rattle.tuner.specs.Calls.{Call}
 use Rattle.tuner.specs.CallStarts.{StartsOf}
 use Rattle.tuner.specs.Conducted.{IsAbout, Runs}
 use Rattle.tuner.specs.ReadyToDrive.{DrivesOn, HasSeat, IsFree}
-use Rattle.tuner.specs.SeatsTogether.{AreSeatsOf, HasWorkedOn, RunsOn, RunsWorked}
+use Rattle.tuner.specs.SeatsTogether.{AreSeatsOf, HasSeats, HasWorkedOn, RunsOn, RunsWorked}
 use Rattle.tune_front.specs.declared.status.Status.TheVariants as status
 use Rattle.tune_front.specs.declared.task.Task.{Task}
 
@@ -96,11 +96,29 @@ first_drives call task truth seats d after h sized = by h.before seats h.worked 
       first = record { was = was 0 b refl; is = is 0 after refl };
     }
 
--- the only seat of a call drives
-pub only_drives : (call : Call) (task : Task) (truth : Option (Key → Outcome)) (seat after : SeatState) → Runs call task truth
-    → HasSeat call 0 seat after → DrivesOn call task truth seat after
-only_drives call task truth seat after runs first =
-    record { runs = runs; before = seat; ready = record { counts = omega arith; same = λ one. refl }; first = first }
+first_of : (seats : List SeatState) (d : SeatState) → 0 < length seats → slice_get seats 0 ≡ Some (get_or seats 0 d)
+first_of [] d some = absurd (omega arith)
+first_of (s ∷ later) d some = refl
+
+new_first : (seats : List SeatState) (after : SeatState) → 0 < length seats → slice_get (set seats 0 after) 0 ≡ Some after
+new_first [] after some = absurd (omega arith)
+new_first (s ∷ later) after some = refl
+
+-- the first of some seats, before and after
+has_first : (call : Call) (seats : List SeatState) (d after : SeatState) → HasSeats call seats (set seats 0 after) → 0 < length seats
+    → HasSeat call 0 (get_or seats 0 d) after
+has_first call seats d after h some =
+    record { was = h.was 0 (get_or seats 0 d) (first_of seats d some); is = h.is 0 after (new_first seats after some) }
+
+-- the first of the seats that a task asks for drives alone
+pub only_drives : (call : Call) (task : Task) (truth : Option (Key → Outcome)) (seats : List SeatState) (d after : SeatState)
+    → RunsOn call task truth seats (set seats 0 after) → 0 < length seats → DrivesOn call task truth (get_or seats 0 d) after
+only_drives call task truth seats d after h some = record {
+  runs = h.runs;
+  before = get_or seats 0 d;
+  ready = record { counts = omega arith; same = λ one. refl };
+  first = has_first call seats d after h.has some;
+}
 
 -- a seat that was cleared drives as it would before
 pub cleared_drives : (call : Call) (task : Task) (truth : Option (Key → Outcome)) (seat cleared after : SeatState)

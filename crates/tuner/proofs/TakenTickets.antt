@@ -1,78 +1,66 @@
--- The ticket that a board gave, made again from its event.
-use Rattle.std.proofs.Common.{ℕ, ◌≡◌, Bool, true, List, All, refl, sym, ap, subst, ◌∙◌}
+-- The event by which a board gave a ticket.
+use Rattle.std.proofs.Common.{◌≡◌, Bool, true, false, List, All, refl, sym, ap, subst, ◌∙◌}
+use Rattle.std.specs.Bool.{Decides}
 use Rattle.std.specs.Prelude.{◌↔◌, IsTrue}
+use Rattle.std.proofs.lemmas.Bool.{false≢true}
+use Rattle.std.proofs.lemmas.Bool.Decides.{Decides-and, Decides-eqb}
 use Rattle.std.proofs.lemmas.List.Elements.{All-contains}
-use Rattle.objective.specs.declared.Micros.{Micros}
-use Rattle.run_cache.specs.declared.cell.Cell.{Cell}
+use Rattle.wrapper_lines.specs.declared.runs.Key.{Key}
 use Rattle.board_steps.specs.declared.events.Event.{Event}
 use Rattle.board_steps.specs.declared.events.Event.TheVariants.{Take}
-use Rattle.board_steps.specs.declared.tickets.Kind.{Kind}
 use Rattle.board_steps.specs.declared.tickets.Kind.TheVariants.{Asked, Ahead}
 use Rattle.board_steps.specs.declared.tickets.Ticket.{Ticket}
 use Rattle.board_steps.specs.Ledgers.{take_event}
 use Rattle.board_steps.specs.Numbering.{IsRunnable, IsRunnableTake}
 use Rattle.board_steps.specs.Problem.{Problem}
 use Rattle.board_steps.specs.ProblemRuns.{key_of}
-use Rattle.board_steps.specs.Tickets.{same_ticket}
-use Rattle.board_steps.proofs.SameItself.{same_ticket-itself}
-use Rattle.board_steps.proofs.SameTickets.{same_ticket-equal}
-use Rattle.pool_run.specs.Drives.{IsAskedTicket}
-use Rattle.tuner.specs.KeptFaults.{IsTakeOf, IsTakenIn}
+use Rattle.board_steps.proofs.SameCells.{decides_also, same_cell-Decides}
+use Rattle.board_steps.proofs.SameTickets.{same_kind-Decides}
+use Rattle.tuner.specs.KeptFaults.{IsTakeOf, IsTakenIn, takes}
 
--- an event is of the ticket that is the same as the one made from it
-taken_by : (problem : Problem) (event : Event) (own t : Ticket) (cell : Cell) → event ≡ Take own.number own.kind cell own.run.cutoff own.place
-    → own.cell ≡ cell → own.kind ≡ Asked → own.run.key ≡ key_of problem cell → IsRunnableTake problem.rules event → same_ticket own t ≡ true
-    → IsTakeOf problem t event
-taken_by problem event own t cell is copied asked key runnable same =
-    let equal = same_ticket-equal own t same in
-    let event_is : event ≡ take_event own = is ∙ ap (λ c. Take own.number own.kind c own.run.cutoff own.place) (sym copied) in
-    let R : Event → Type 0 = λ e. IsRunnableTake problem.rules e in
-    let A : Ticket → Type 0 = λ x. IsAskedTicket problem x in
-    let runs : IsRunnable problem.rules own.cell own.run.cutoff.0 = subst R event_is runnable in
-    record {
-      event_is = event_is ∙ ap take_event equal;
-      asked = subst A equal (record { asked = asked; key = key ∙ ap (key_of problem) (sym copied); runnable = runs });
-    }
+-- no other event is that a ticket was taken
+none_else : (t : Ticket) (event : Event) → takes t event ≡ false → event ≡ take_event t → takes t (take_event t) ≡ true → ⊥
+none_else t event other same taken = absurd (false≢true (sym other ∙ ap (takes t) same ∙ taken))
 
--- and of no other
-same_as : (problem : Problem) (event : Event) (own t : Ticket) (cell : Cell) → event ≡ Take own.number own.kind cell own.run.cutoff own.place
-    → own.cell ≡ cell → own.run.key ≡ key_of problem cell → IsTakeOf problem t event → same_ticket own t ≡ true
-same_as problem event own t cell is copied key h =
-    let taken : Take own.number own.kind cell own.run.cutoff own.place ≡ Take t.number t.kind t.cell t.run.cutoff t.place = sym is ∙ h.event_is in
-    let number : own.number ≡ t.number = cc in
-    let kind : own.kind ≡ t.kind = cc in
-    let cells : cell ≡ t.cell = cc in
-    let cutoff : own.run.cutoff ≡ t.run.cutoff = cc in
-    let place : own.place ≡ t.place = cc in
-    let own_cell : own.cell ≡ t.cell = copied ∙ cells in
-    let own_key : own.run.key ≡ t.run.key = key ∙ ap (key_of problem) cells ∙ sym h.asked.key in
-    let equal : own ≡ t =
-    λ i. record { number = number i; cell = own_cell i; run = record { key = own_key i; cutoff = cutoff i }; kind = kind i; place = place i } in
-    let S : Ticket → Type 0 = λ x. same_ticket own x ≡ true in
-    subst S equal (same_ticket-itself own)
+-- the event of a ticket is that it was taken
+own_event : (t : Ticket) → takes t (take_event t) ≡ true
+own_event t =
+    let number = Decides-and _ _ (Decides-eqb t.number t.number) (Decides-eqb t.place t.place) in
+    let kind = Decides-and _ _ number (same_kind-Decides t.kind t.kind) in
+    let cell = Decides-and _ _ kind (same_cell-Decides t.cell t.cell) in
+    (Decides-and _ _ cell (Decides-eqb t.run.cutoff.0 t.run.cutoff.0)).1 ((((refl, refl), refl), refl), refl)
 
--- an event is of a ticket exactly where the one made from it is the same
-pub taken_exactly : (problem : Problem) (event : Event) (own t : Ticket) (cell : Cell) → event ≡ Take own.number own.kind cell own.run.cutoff own.place
-    → own.cell ≡ cell → own.kind ≡ Asked → own.run.key ≡ key_of problem cell → IsRunnableTake problem.rules event
-    → (result : Bool) → result ≡ same_ticket own t → IsTrue result ↔ IsTakeOf problem t event
-taken_exactly problem event own t cell is copied asked key runnable result same =
-    (λ e. taken_by problem event own t cell is copied asked key runnable (sym same ∙ e), λ h. same ∙ same_as problem event own t cell is copied key h)
+-- an event by which a ticket is taken is its own
+pub taking : (t : Ticket) (event : Event) → takes t event ≡ true → event ≡ take_event t
+taking t (Take number kind cell cutoff place) taken =
+    let numbers = Decides-and _ _ (Decides-eqb number t.number) (Decides-eqb place t.place) in
+    let kinds = Decides-and _ _ numbers (same_kind-Decides kind t.kind) in
+    let cells = Decides-and _ _ kinds (same_cell-Decides cell t.cell) in
+    let p = (Decides-and _ _ cells (Decides-eqb cutoff.0 t.run.cutoff.0)).0 taken in
+    λ i. Take (p.0.0.0.0 i) (p.0.0.1 i) (p.0.1 i) (record { 0 = p.1 i }) (p.0.0.0.1 i)
+taking t e taken = absurd (false≢true taken)
 
--- an event that gave a ticket another number is not of it
-pub of_another : (problem : Problem) (event : Event) (t : Ticket) (number : ℕ) (kind : Kind) (cell : Cell) (cutoff : Micros) (place : ℕ)
-    → event ≡ Take number kind cell cutoff place → (number ≡ t.number → ⊥) → IsTakeOf problem t event → ⊥
-of_another problem event t number kind cell cutoff place is other h =
-    let taken : Take number kind cell cutoff place ≡ Take t.number t.kind t.cell t.run.cutoff t.place = sym is ∙ h.event_is in
-    let same : number ≡ t.number = cc in
-    other same
+-- an event of another ticket isn't of this one
+pub of_another : (problem : Problem) (event : Event) (t : Ticket) → takes t event ≡ false → IsTakeOf problem t event → ⊥
+of_another problem event t other h = none_else t event other h.event_is (own_event t)
 
--- nor one that gave it ahead
-pub of_ahead : (problem : Problem) (event : Event) (t : Ticket) (number : ℕ) (kind : Kind) (cell : Cell) (cutoff : Micros) (place : ℕ)
-    → event ≡ Take number kind cell cutoff place → kind ≡ Ahead → IsTakeOf problem t event → ⊥
-of_ahead problem event t number kind cell cutoff place is ahead h =
-    let taken : Take number kind cell cutoff place ≡ Take t.number t.kind t.cell t.run.cutoff t.place = sym is ∙ h.event_is in
-    let asked : t.kind ≡ Asked = h.asked.asked in
-    cc
+-- nor is one of a ticket that was given ahead
+pub of_ahead : (problem : Problem) (event : Event) (t : Ticket) → t.kind ≡ Ahead → IsTakeOf problem t event → ⊥
+of_ahead problem event t ahead h = absurd (let asked : t.kind ≡ Asked = h.asked.asked in cc)
+
+-- a ticket that is taken may be run
+pub runnable_by : (problem : Problem) (event : Event) (t : Ticket) → takes t event ≡ true → IsRunnableTake problem.rules event
+    → IsRunnable problem.rules t.cell t.run.cutoff.0
+runnable_by problem event t taken runnable =
+    let R : Event → Type 0 = λ e. IsRunnableTake problem.rules e in subst R (taking t event taken) runnable
+
+-- an event by which a ticket is taken that was asked for is of it exactly where the ticket has the key of its cell
+pub taken_exactly : (problem : Problem) (event : Event) (t : Ticket) → takes t event ≡ true → t.kind ≡ Asked → IsRunnableTake problem.rules event
+    → (result : Bool) → IsTrue result ↔ (t.run.key ≡ key_of problem t.cell) → IsTrue result ↔ IsTakeOf problem t event
+taken_exactly problem event t taken asked runnable result key = (
+  λ e. record { event_is = taking t event taken; asked = record { asked = asked; key = key.0 e; runnable = runnable_by problem event t taken runnable } },
+  λ h. key.1 h.asked.key,
+)
 
 -- where no event is of a ticket, the journal hasn't that it was taken
 pub none_taken : (problem : Problem) (journal : List Event) (t : Ticket) → All (λ e. ¬ IsTakeOf problem t e) journal → IsTakenIn problem journal t → ⊥

@@ -1,5 +1,5 @@
 -- The ticket that a seat keeps where its run failed, and which one of several seats is reported.
-use Rattle.std.specs.Prelude.{ℕ, ◌≡◌, false, List, All, take, slice_get, Option, Some, None, IsSome, IsSomeAnd}
+use Rattle.std.specs.Prelude.{ℕ, ◌≡◌, ◌==◌, ◌&&◌, Bool, false, List, All, take, slice_get, Option, Some, None, IsSome, IsSomeAnd}
 use Rattle.std.specs.List.{Contains}
 use Rattle.objective.specs.declared.Outcome.{Outcome}
 use Rattle.wrapper_lines.specs.declared.runs.Key.{Key}
@@ -8,9 +8,11 @@ use Rattle.ils_face.specs.Rules.{Rules}
 use Rattle.ils_face.specs.Views.{View}
 use Rattle.board_steps.specs.Boards.{BoardState}
 use Rattle.board_steps.specs.declared.events.Event.{Event}
+use Rattle.board_steps.specs.declared.events.Event.TheVariants.{Take}
 use Rattle.board_steps.specs.Ledgers.{take_event}
 use Rattle.board_steps.specs.Problem.{Problem}
 use Rattle.board_steps.specs.ProblemRuns.{table_of}
+use Rattle.board_steps.specs.Tickets.{same_cell, same_kind}
 use Rattle.board_steps.specs.declared.tickets.Ticket.{Ticket}
 use Rattle.pool_run.specs.Drives.{IsAskedTicket, IsDueTicket, is_over}
 use Rattle.pool_run.specs.Seats.{SeatState, IsFault, fault_of}
@@ -38,6 +40,15 @@ pub record HasFault (task : Task) (truth : Option (Key → Outcome)) (before aft
   pub due : IsSome truth → IsDueTicket task.problem.rules.limits (table_of truth task.problem) (asks_over truth task) t
 
 -- ---- which one is reported
+
+-- the event is that this ticket was taken
+abbrev pub takes : Ticket → Event → Bool
+takes t (Take number kind cell cutoff place) = (number == t.number)
+    && (place == t.place)
+    && same_kind kind t.kind
+    && same_cell cell t.cell
+    && (cutoff.0 == t.run.cutoff.0)
+takes t e = false
 
 -- the event is that this ticket of the problem was taken, which was asked for
 pub record IsTakeOf (problem : Problem) (t : Ticket) (event : Event) : Type 0 where

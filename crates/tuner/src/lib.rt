@@ -2,6 +2,7 @@
 //! search, and what a call answers, is of `tune_front`.
 #![tactic(auto)]
 
+mod cell_keys;
 mod driving;
 mod finishing;
 mod kept_faults;

@@ -1,4 +1,4 @@
-//! The board of a task is worked on by several seats beside each other.
+//! A task is run by one seat, or its board is worked on by several seats beside each other.
 ghost use Rattle.std.specs.Prelude.{◌≡◌, ◌<◌, ◌↔◌, ℕ, IsTrue, length, slice_index_or};
 ghost use Rattle.std.specs.List.{list_any};
 ghost use Rattle.pool_run.specs.Seats.{SeatState};
@@ -129,15 +129,14 @@ fn conclude<R: Wait, P: Search, O: Sink, S: Spawner>(
     if is_over(board) {
         return report_ending(alloc, task, board, out);
     }
-    match first_fault(alloc, board, seats) {
-        Ok(Some(number)) => report_kept(alloc, task, board, number, seats, out),
-        Ok(None) => go_on(rt, alloc, task, board, out, seats),
-        Err(_) => report_no_memory(alloc, task, board, out),
+    match first_fault(board, seats) {
+        Some(number) => report_kept(alloc, task, board, number, seats, out),
+        None => go_on(rt, alloc, task, board, out, seats),
     }
 }
 
-/// Runs a task on as many seats as it asks for, and prints how that ended. It may wait.
-pub(crate) fn run_together<R: Threads + Wait + Sync, P: Search + Send, O: Sink, S: Spawner + Send>(
+/// Runs a task over this kind of search on as many seats as it asks for, and prints how that ended. It may wait.
+pub(crate) fn run_search<R: Threads + Wait + Sync, P: Search + Send, O: Sink, S: Spawner + Send>(
     rt: &R,
     alloc: Global,
     task: &Task,
@@ -145,11 +144,15 @@ pub(crate) fn run_together<R: Threads + Wait + Sync, P: Search + Send, O: Sink, 
     seats: &mut [Seat<S>],
 ) -> Status
     requires procedure { IsProcedureOf task.now.approach P.plain }
-    requires seats { AreSeatsOf task.now seats.old }
+    requires all { length seats.old ≡ task.now.problem.rules.workers }
+    requires idle { AreIdle seats.old }
     ensures idle { AreIdle seats.new }
     ensures ending { (call : Call) → RunsOn call task.now S.truth seats.old seats.new
         → Conducted call (O.told out.old) (O.told out.new) result }
 {
+    if task.workers() == 1 {
+        return run_alone::<R, P, O, S>(rt, alloc, task, out, &mut seats[0]);
+    }
     match open_board::<P, S>(alloc, &task.problem) {
         Ok(board) => {
             let mut board = work_all(rt, board, &task.program, seats);

@@ -1,55 +1,27 @@
 //! The top call.
-ghost use Rattle.std.specs.Prelude.{◌≡◌, ℕ, IsTrue, All, List, Ok, length};
+ghost use Rattle.std.specs.Prelude.{◌≡◌, IsTrue, All, length};
 ghost use Rattle.outside.specs.WholePieces.{WroteBadly};
-ghost use Rattle.scenario_files.specs.Ranges.{AreWordsWithin};
-ghost use Rattle.scenario_files.specs.Words.{words_read};
-ghost use Rattle.tuner.specs.Calls.{Call, IsSeated, call_of};
+ghost use Rattle.tuner.specs.Calls.{Call, call_of};
 ghost use Rattle.tuner.specs.Causes.{HasCause};
 ghost use Rattle.tuner.specs.Conducted.{Conducted, IsAbout};
 ghost use Rattle.tuner.specs.PrintedTexts.{Printed};
 ghost use Rattle.tuner.specs.Promises.{AbortSentence, Headline, IsComplete, PrintsFirst};
 ghost use Rattle.tuner.specs.Promises.{RefusesFaulty, RefusesMisused, RefusesUnseated, Starts};
-ghost use Rattle.tuner.specs.Tasks.{IsProcedureOf};
 
-use crate::driving::run_alone;
-use crate::together::run_together;
+use crate::together::run_search;
 use basic_ils::Basic;
 use focused_ils::Focused;
-use ils_face::Search;
 use ils_frame::Ils;
 use outside::{Files, Sink, Spawner};
 use plain_text::Text;
 use pool_run::Seat;
-use scenario_files::{Approach, Words, read_words};
+use scenario_files::{Approach, read_words};
 use std::alloc::Global;
 use std::sync::Wait;
 use std::thread::Threads;
 use tune_front::{Status, Task, read_task, refuse_files, refuse_seats, refuse_words};
 
-/// Runs a task over this kind of search on as many of the seats as it asks for. It may wait.
-fn run_seated<R: Threads + Wait + Sync, P: Search + Send, O: Sink, S: Spawner + Send>(
-    rt: &R,
-    alloc: Global,
-    task: &Task,
-    out: &mut O,
-    seats: &mut [Seat<S>],
-) -> Status
-    requires idle { All (λ seat. IsTrue seat.told.idle) seats.old }
-    requires procedure { IsProcedureOf task.now.approach P.plain }
-    requires seated { IsSeated (length seats.old) task.now }
-    ensures ending { (call : Call) → IsAbout call task.now S.truth seats.old seats.new
-        → Conducted call (O.told out.old) (O.told out.new) result }
-    ensures idle { All (λ seat. IsTrue seat.told.idle) seats.new }
-{
-    let workers = task.workers();
-    if workers == 1 {
-        return run_alone::<R, P, O, S>(rt, alloc, task, out, &mut seats[0]);
-    }
-    let (seats, _) = seats.split_at_mut(workers as usize);
-    run_together::<R, P, O, S>(rt, alloc, task, out, seats)
-}
-
-/// Runs a task, where there are as many seats as it asks for. It may wait.
+/// Runs a task by its approach on as many of the seats as it asks for, where there are so many. It may wait.
 fn run_task<R: Threads + Wait + Sync, O: Sink, S: Spawner + Send>(
     rt: &R,
     alloc: Global,
@@ -66,36 +38,14 @@ fn run_task<R: Threads + Wait + Sync, O: Sink, S: Spawner + Send>(
     if seats.len() < workers as usize {
         return refuse_seats(alloc, workers, seats.len() as u32, out);
     }
+    let (seats, _) = seats.split_at_mut(workers as usize);
     match task.approach {
-        Approach::Basic => run_seated::<R, Ils<Basic>, O, S>(rt, alloc, task, out, seats),
-        Approach::Focused => run_seated::<R, Ils<Focused>, O, S>(rt, alloc, task, out, seats),
+        Approach::Basic => run_search::<R, Ils<Basic>, O, S>(rt, alloc, task, out, seats),
+        Approach::Focused => run_search::<R, Ils<Focused>, O, S>(rt, alloc, task, out, seats),
     }
 }
 
-/// The call of words that have a reading, but for its log: the files are read, and the search
-/// is run. It may wait.
-fn conduct_given<R: Threads + Wait + Sync, F: Files, O: Sink, S: Spawner + Send>(
-    rt: &R,
-    alloc: Global,
-    given: Words,
-    files: &mut F,
-    out: &mut O,
-    seats: &mut [Seat<S>],
-) -> Status
-    requires words { AreWordsWithin given }
-    requires idle { All (λ seat. IsTrue seat.told.idle) seats.old }
-    ensures ending { (words : List (List ℕ)) → words_read words ≡ Ok given →
-        let call = call_of words (F.told files.old) (F.told files.new) S.truth seats.old seats.new in
-        Conducted call (O.told out.old) (O.told out.new) result }
-    ensures idle { All (λ seat. IsTrue seat.told.idle) seats.new }
-{
-    match read_task(alloc, files, given) {
-        Ok(task) => run_task(rt, alloc, &task, out, seats),
-        Err(refusal) => refuse_files(alloc, refusal, out),
-    }
-}
-
-/// The call but for its log. It may wait.
+/// The call but for its log: the words and the files that they name make a task, which is run. It may wait.
 fn conduct<R: Threads + Wait + Sync, F: Files, O: Sink, S: Spawner + Send>(
     rt: &R,
     alloc: Global,
@@ -110,7 +60,10 @@ fn conduct<R: Threads + Wait + Sync, F: Files, O: Sink, S: Spawner + Send>(
     ensures idle { All (λ seat. IsTrue seat.told.idle) seats.new }
 {
     match read_words(alloc, words) {
-        Ok(given) => conduct_given(rt, alloc, given, files, out, seats),
+        Ok(given) => match read_task(alloc, files, given) {
+            Ok(task) => run_task(rt, alloc, &task, out, seats),
+            Err(refusal) => refuse_files(alloc, refusal, out),
+        },
         Err(fault) => refuse_words(alloc, fault, out),
     }
 }

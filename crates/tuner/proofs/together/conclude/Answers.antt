@@ -1,4 +1,4 @@
-use Rattle.std.proofs.Common.{ℕ, Option, sym, subst, ◌∙◌, inr}
+use Rattle.std.proofs.Common.{ℕ, Option, sym, subst, ◌∙◌}
 use Rattle.std.proofs.lemmas.Bool.{false≢true}
 use Rattle.tuner.specs.AnyAnswers.{EndsAs}
 use Rattle.tuner.specs.KeptFaults.{IsFirst, KeepsTaken}
@@ -19,10 +19,6 @@ pub go_on-requires-clause-board : goal.go_on-requires-clause-board
 go_on-requires-clause-board g c =
     record { problem = sym c.problem.ensures ∙ c.is_same.ensures.0 c.if-not-is_same.false; procedure = c.requires.procedure }
 
-pub report_no_memory-requires : goal.report_no_memory-requires
-report_no_memory-requires g c =
-    record { board = record { problem = sym c.problem.ensures ∙ c.is_same.ensures.0 c.if-not-is_same.false; procedure = c.requires.procedure } }
-
 pub returns-then-not-is_same-clause-ending : goal.returns-then-not-is_same-clause-ending
 returns-then-not-is_same-clause-ending g c = λ call worked.
     c.run_alone.ensures.ending call
@@ -40,17 +36,14 @@ pub returns-then-is_over-clause-fault : goal.returns-then-is_over-clause-fault
 returns-then-is_over-clause-fault g c = λ same going k first.
     absurd (false≢true (sym going ∙ sym c.is_over.ensures ∙ c.if-is_over.true))
 
-pub returns-in-Ok-Some-clause-fault : goal.returns-in-Ok-Some-clause-fault
-returns-in-Ok-Some-clause-fault g c = λ same going k first.
+pub returns-in-Some-clause-fault : goal.returns-in-Some-clause-fault
+returns-in-Some-clause-fault g c = λ same going k first.
     let F : Option ℕ → Type 0 = λ o. IsFirst (KeepsTaken c.args.board.now) c.args.seats.now o in
     let G : ℕ → Type 0 = λ n. EndsAs (status.ChildFault n) c.report_kept.result in
-    let found = subst F c.in-Ok-Some.field-0-is c.in-Ok-Some.ensures in
-    subst G (first_once (KeepsTaken c.args.board.now) c.args.seats.now c.in-Ok-Some.number k found first) c.report_kept.ensures.answer
+    let found = subst F c.in-Some.is c.first_fault.ensures in
+    subst G (first_once (KeepsTaken c.args.board.now) c.args.seats.now c.in-Some.number k found first) c.report_kept.ensures.answer
 
-pub returns-in-Ok-None-clause-fault : goal.returns-in-Ok-None-clause-fault
-returns-in-Ok-None-clause-fault g c = λ same going k first.
+pub returns-in-None-clause-fault : goal.returns-in-None-clause-fault
+returns-in-None-clause-fault g c = λ same going k first.
     let F : Option ℕ → Type 0 = λ o. IsFirst (KeepsTaken c.args.board.now) c.args.seats.now o in
-    absurd (first_none (KeepsTaken c.args.board.now) c.args.seats.now k (subst F c.in-Ok-None.field-0-is c.in-Ok-None.ensures) first)
-
-pub returns-in-Err-clause-fault : goal.returns-in-Err-clause-fault
-returns-in-Err-clause-fault g c = λ same going k first. inr c.report_no_memory.ensures.answer
+    absurd (first_none (KeepsTaken c.args.board.now) c.args.seats.now k (subst F c.in-None.is c.first_fault.ensures) first)
