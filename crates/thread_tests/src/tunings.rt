@@ -39,6 +39,18 @@ fn folder_with(alloc: Global, instance: &str) -> Result<MemoryFiles, Memory> {
     Ok(folder)
 }
 
+/// A seat by this plan, of those that share these counts.
+fn seat_by<'a, R: Clock>(
+    rt: &'a R,
+    alloc: Global,
+    plan: Plan,
+    counts: &Arc<Counts, Global>,
+) -> Result<Seat<PlannedSeat<'a, R>>, Memory>
+    ensures { IfOk result (λ seat. IsTrue seat.told.idle) }
+{
+    Ok(Seat::new(alloc, PlannedSeat::new(rt, alloc, plan, counts)?))
+}
+
 /// So many seats by this plan.
 fn seats_by<'a, R: Clock>(
     rt: &'a R,
@@ -51,7 +63,7 @@ fn seats_by<'a, R: Clock>(
     let counts = Arc::new(alloc, Counts::new())?;
     let mut seats = Vec::new(alloc);
     for _ in 0..count {
-        seats.push(Seat::new(alloc, PlannedSeat::new(rt, alloc, plan, &counts)?))?;
+        seats.push(seat_by(rt, alloc, plan, &counts)?)?;
     }
     Ok(seats)
 }
