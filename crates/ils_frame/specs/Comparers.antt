@@ -2,7 +2,7 @@
 use Rattle.std.specs.Prelude.{ℕ, ◌≡◌, ◌+◌, ◌*◌, ◌<◌, ◌≤◌, ◌⊎◌, Bool, true, false, List, [], ◌∷◌, ◌++◌, map, length, Option, Some, None, IsSome}
 use Rattle.uncapped.specs.Procedure.{Settings, Sums, Question, Incumbent, Addition, PlainState, Aborted, Goes, Ends, Procedure, ◌>>=◌, give}
 use Rattle.uncapped.specs.Setup.{Setup}
-use Rattle.uncapped.specs.Evaluation.{after_ask}
+use Rattle.uncapped.specs.Evaluation.{after_ask, counts_after}
 use Rattle.uncapped.specs.Uncapped.{at_first, last_of}
 use Rattle.ils_face.specs.declared.asks.Reply.{Reply}
 use Rattle.ils_face.specs.declared.asks.Reply.TheVariants.{Exact}
@@ -111,15 +111,17 @@ pub record IsSteadyComparer {S : Type 0} (parts : Parts S) (fit : S → Type 0) 
 abbrev pub additions_after : ℕ → List Incumbent → List Addition
 additions_after n new = map (λ e. record { asks_before = n; entry = e }) new
 
--- the procedure's state after an answer: one more ask, and the entries that it adds
+-- the procedure's state after an answer: one more ask, its places count as run, and the entries that it adds
 pub record Advanced (s t : PlainState) (q : Question) (added : List Incumbent) : Type 0 where
   pub asks : t.asks ≡ s.asks ++ q ∷ []
+  pub counts : t.counts ≡ counts_after s.counts q.config q.places
   pub entries : t.entries ≡ s.entries ++ additions_after (length s.asks + 1) added
   pub event : t.event ≡ s.event
 
--- the procedure's state after a begin: nothing was asked, drawn or added
+-- the procedure's state after a begin: nothing was asked, counted, drawn or added
 pub record Unasked (s t : PlainState) : Type 0 where
   pub asks : t.asks ≡ s.asks
+  pub counts : t.counts ≡ s.counts
   pub entries : t.entries ≡ s.entries
   pub event : t.event ≡ s.event
 

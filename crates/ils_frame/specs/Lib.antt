@@ -1,4 +1,5 @@
 pub mod IncumbentInvariant
+pub mod ShownIncumbents
 pub mod Comparers
 pub mod NextComparison
 pub mod Machine

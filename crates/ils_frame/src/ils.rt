@@ -1,5 +1,10 @@
 //! Iterated local search over any comparer.
 ghost use Rattle.std.specs.Prelude.{◌≡◌};
+ghost use Rattle.objective.specs.Costs.{Table};
+ghost use Rattle.ils_face.specs.declared.rules.Rules.{Rules};
+ghost use Rattle.ils_face.specs.Rules.{AreRules};
+ghost use Rattle.ils_face.specs.Follows.{sums_under};
+ghost use Rattle.ils_frame.specs.ShownIncumbents.{KeepsInvariant};
 
 use crate::beginning::{begin, set_out};
 use crate::comparer::Comparer;
@@ -150,3 +155,11 @@ impl<C: Comparer> Search for Ils<C> {
         self.comparer.incumbent_sum()
     }
 }
+
+/// Given the replies of a table, after each of them no configuration has more runs than the
+/// incumbent that is shown, none with as many costs less over them, and the incumbent's cost
+/// was replied.
+pub fn keep_incumbents<C: Comparer>()
+    ensures { (rules : Rules) (T : Table) → AreRules rules → let search = ⟦<Ils<C> as Search>⟧ in
+        KeepsInvariant (search.shown rules) (sums_under rules T) (search.plain rules T) }
+{}

@@ -16,5 +16,5 @@ mod upcoming;
 
 pub use comparer::Comparer;
 pub use entries::Entries;
-pub use ils::Ils;
+pub use ils::{Ils, keep_incumbents};
 pub use stage::Stage;

@@ -101,8 +101,8 @@ module _ (b : Bool) (θ : Settings) (n x : ℕ) (bound : Option ℕ) (last : Inc
   advanced_by c = at_either b
     where
       at_either : (b : Bool) → Advanced s (win_where b θ n x (after_evaluation θ n bound s)) (record { config = θ; places = n; bound = bound }) (entry_where b (entry n last θ x))
-      at_either true = record { asks = refl; entries = rw (c, length_push) refl; event = refl }
-      at_either false = record { asks = refl; entries = sym (append-nil s.entries); event = refl }
+      at_either true = record { asks = refl; counts = refl; entries = rw (c, length_push) refl; event = refl }
+      at_either false = record { asks = refl; counts = refl; entries = sym (append-nil s.entries); event = refl }
 
   incumbent_after : s.incumbent ≡ last.config → (win_where b θ n x (after_evaluation θ n bound s)).incumbent ≡ (last_after last (entry_where b (entry n last θ x))).config
   incumbent_after i = at_either b
@@ -182,7 +182,7 @@ module _ (setup : Setup) (sums : Sums) (start : Settings) (b : setup.start ≡ s
             };
           };
           same = opening_goes setup sums n m last s x (f.config ∙ sym b) e;
-          advanced = record { asks = refl; entries = rw (c, length_push) refl; event = refl };
+          advanced = record { asks = refl; counts = refl; entries = rw (c, length_push) refl; event = refl };
         }
 
     second_replied : (first second : Settings) → IsKnown n sums last s → (x : ℕ) → sums second n ≡ Some x
@@ -311,7 +311,7 @@ basic_keeps n allowed start setup sums m b zero = record {
   begins = λ c s θ φ j f k none. let h : IsKnown c.max_runs sums c.last s = known_at_rest c.max_runs sums start c.last c.phase s none k.phase in record {
     stays = record { incumbent = k.incumbent; compared = refl; known = k.known; invariant = kept-beside sums s k.invariant s.bonus j s.event s.entries; phase = record { most = h.most; top = h.top; runs = h.runs; sum = h.sum } };
     same = refl;
-    unasked = record { asks = refl; entries = refl; event = refl };
+    unasked = record { asks = refl; counts = refl; entries = refl; event = refl };
   };
   known = λ c s f k. k.known;
   ended = λ c s b e. ended_at setup sums c.max_runs c.last.config c.phase s b e;

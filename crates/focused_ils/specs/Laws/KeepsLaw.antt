@@ -84,8 +84,8 @@ module _ (q : Question) (x : ℕ) (last : Incumbent) (s : PlainState) where
 
   -- one more ask, and the entry of a new incumbent
   advanced_by : (b : Bool) → s.compared ≡ last.compared → Advanced s (won_where b) q (entry_where b (entry last q.config q.places x))
-  advanced_by true c = record { asks = refl; entries = rw (c, length_push) refl; event = refl }
-  advanced_by false c = record { asks = refl; entries = sym (append-nil s.entries); event = refl }
+  advanced_by true c = record { asks = refl; counts = refl; entries = rw (c, length_push) refl; event = refl }
+  advanced_by false c = record { asks = refl; counts = refl; entries = sym (append-nil s.entries); event = refl }
 
   incumbent_after : (b d : Bool) → s.incumbent ≡ last.config → (won_where b).incumbent ≡ (last_where b d last q.config q.places x).config
   incumbent_after true d i = refl
@@ -243,7 +243,7 @@ module _ (setup : Setup) (sums : Sums) (n : ℕ) (m : setup.max_runs ≡ n) (all
   next_advanced Opened false q r p a = a
   next_advanced (High turn) false q r p a = a
   next_advanced (Low turn bound) false q r p a = a
-  next_advanced (Further θ i) false q r p a = record { asks = a.asks; entries = a.entries; event = a.event }
+  next_advanced (Further θ i) false q r p a = record { asks = a.asks; counts = a.counts; entries = a.entries; event = a.event }
   next_advanced (Compared won) false q r p a = a
 
   high_replied : (turn : Turn) (x : ℕ) → cost_asked sums (question_at t.last (High turn)) ≡ Some x → GoesOnBy (High turn) (question_at t.last (High turn)) (exactly x)
@@ -430,7 +430,7 @@ module _ (setup : Setup) (sums : Sums) (n : ℕ) (m : setup.max_runs ≡ n) (all
       phase = tt;
     };
     same = begins-so setup sums c.max_runs runs_so c.tally.counts s k.counts θ φ j;
-    unasked = record { asks = refl; entries = refl; event = refl };
+    unasked = record { asks = refl; counts = refl; entries = refl; event = refl };
   }
 
 -- with the replies of total costs

@@ -1,12 +1,12 @@
--- A search over any comparer follows the procedure.
-use Rattle.std.proofs.Common.{ℕ, suc, ◌≡◌, ◌+◌, ◌≤◌, Bool, false, [], ◌++◌, map, filter, length, refl, sym, ◌∙◌, ap, subst, arith, take_all}
+-- A search over any comparer follows the procedure, and its incumbent keeps the incumbent invariant.
+use Rattle.std.proofs.Common.{ℕ, suc, ◌≡◌, ◌+◌, ◌≤◌, Bool, false, [], ◌++◌, map, filter, take, length, refl, sym, ◌∙◌, ap, subst, arith, take_all}
 use Rattle.std.proofs.lemmas.List.{map-append}
 use Rattle.std.proofs.lemmas.List.Elements.{filter-append}
 use Rattle.uncapped.specs.Procedure.{Settings, Sums, PlainState, End, Finished, Aborted, Procedure, goes_on, give}
 use Rattle.uncapped.specs.Setup.{Setup}
 use Rattle.uncapped.specs.Searching.{search_after}
 use Rattle.uncapped.specs.Uncapped.{Run, run_after, at_first}
-use Rattle.ils_face.specs.Replies.{ask_for, reply_count, entries_before}
+use Rattle.ils_face.specs.Replies.{ask_for, reply_to, reply_count, entries_before}
 use Rattle.ils_face.specs.Follows.{Follows, GoesThrough, answer_count, sums_under}
 use Rattle.ils_face.specs.ProcedureAborts.{MeetsAborts}
 use Rattle.ils_face.proofs.QuietTables.{quiet-through}
@@ -15,8 +15,9 @@ use Rattle.ils_face.proofs.AbortedRuns.{aborts_met}
 use Rattle.uncapped.specs.Totals.{quiet}
 use Rattle.ils_frame.specs.declared.purpose.Purpose.TheVariants.{Opening}
 use Rattle.ils_frame.specs.Comparers.{decision_in, Parts, IsSteadyComparer, additions_after, opened_state, Keeps}
+use Rattle.ils_frame.specs.ShownIncumbents.{runs_after, HasInvariant, KeepsInvariant}
 use Rattle.ils_frame.specs.Laws.NextSteps.{continuation, bind_assoc}
-use Rattle.ils_frame.specs.Machine.{Machine, first_machine, view_of, shown_after}
+use Rattle.ils_frame.specs.Machine.{Machine, first_machine, after_all, view_of, shown_after}
 use Rattle.ils_frame.specs.Laws.StandsFor.{settle_state, search_coming, StandsFor, settles, settle_stands}
 use Rattle.ils_frame.specs.Laws.AllowedConfigs.{DrawsAllowed}
 use Rattle.ils_frame.specs.Laws.MachineInvariant.{IsSettled, first_machine-settled}
@@ -84,6 +85,19 @@ module _ {S : Type 0} (parts : Parts S) (setup : Setup) (sums : Sums) (first : S
           ∙ ap (map entry_in) (sym (filter-append (is_before k) (additions_after 0 (parts.entries first)) p.late))
           ∙ ap (λ es. map entry_in (filter (is_before k) es)) (sym all_entries)
 
+  -- the incumbent that it shows keeps the invariant
+  led : (s : PlainState) (run : Run) → s.asks ≡ [] → Plays parts setup sums f0 s run → KeepsInvariant (shown_from parts setup f0) sums run
+  led s run none p = record {
+    after = λ k h. rw asks (subst (λ qs. HasInvariant sums (qs ++ take k p.rest) (parts.last (after_all parts setup f0 (map (reply_to sums) (take k p.rest))).comparer)) none
+        (p.led k (subst (λ n. k ≤ n) number h)));
+  }
+    where
+      asks : run.asks ≡ p.rest
+      asks = p.all_asks ∙ ap (λ a. a ++ p.rest) none
+
+      number : answer_count run ≡ p.count
+      number = counts run.end (length run.asks) p.count (λ e. ap length asks ∙ (p.finished e).0) (λ e. ap length asks ∙ (p.aborted e).0)
+
 module _ {S : Type 0} (parts : Parts S) (fit : S → Type 0) (stands : S → PlainState → Type 0) (coming : S → Procedure Bool) (better : Settings → Settings → Procedure Bool) (opening : Procedure (Unit {0}))
     (setup : Setup) (sums : Sums) (first : S) (keeps : Keeps parts fit stands coming better opening setup sums first)
     (allowed : Settings → Type 0) (draws : DrawsAllowed allowed setup) (few_steps : setup.strength ≤ Limits.max_strength) (steady : IsSteadyComparer parts fit setup.max_runs allowed setup.start first) where
@@ -97,13 +111,22 @@ module _ {S : Type 0} (parts : Parts S) (fit : S → Type 0) (stands : S → Pla
       ∙ ap (λ a. goes_on a (continuation setup better Opening)) (sym keeps.opens)
       ∙ settles parts fit stands coming better opening setup sums first keeps first (opened_state parts setup first) steady.opened keeps.opened Opening 0 refl
 
+  -- it begins without an ask, with the entries of the opened comparer
+  starts : StandsFor parts fit stands coming better opening setup sums first keeps (opened_state parts setup first) (first_machine parts setup first) s0
+  starts = settle_stands parts fit stands coming better opening setup sums first keeps first (opened_state parts setup first) steady.opened keeps.opened Opening 0 refl
+
+  is_settled : IsSettled parts fit setup allowed draws few_steps first steady first (first_machine parts setup first)
+  is_settled = first_machine-settled parts fit setup allowed draws few_steps first steady
+
+  search_plays : Plays parts setup sums (first_machine parts setup first) s0 (run_after sums (search_coming parts setup better coming (first_machine parts setup first) s0))
+  search_plays = plays parts fit stands coming better opening setup sums first keeps allowed draws few_steps steady reply_fits (suc (view_of parts setup (first_machine parts setup first)).left) (first_machine parts setup first) s0
+      (record { stays_fitting = is_settled.fitting; stays = starts.stays; event = starts.event }) (starts.counts ∙ ap runs_after (sym starts.asks)) (omega arith)
+
   pub search_follows : Follows (shown_from parts setup (first_machine parts setup first)) sums (run_after sums (search_after setup better opening (at_first setup)))
-  search_follows =
-      let t : StandsFor parts fit stands coming better opening setup sums first keeps (opened_state parts setup first) (first_machine parts setup first) s0 = settle_stands parts fit stands coming better opening setup sums first keeps first (opened_state parts setup first) steady.opened keeps.opened Opening 0 refl in
-      let o : IsSettled parts fit setup allowed draws few_steps first steady first (first_machine parts setup first) = first_machine-settled parts fit setup allowed draws few_steps first steady in
-      rw same_run (followed parts setup sums first s0 (run_after sums (search_coming parts setup better coming (first_machine parts setup first) s0)) t.asks t.entries o.same_entries
-      (plays parts fit stands coming better opening setup sums first keeps allowed draws few_steps steady reply_fits (suc (view_of parts setup (first_machine parts setup first)).left) (first_machine parts setup first) s0
-      (record { stays_fitting = o.fitting; stays = t.stays; event = t.event }) (omega arith)))
+  search_follows = rw same_run (followed parts setup sums first s0 (run_after sums (search_coming parts setup better coming (first_machine parts setup first) s0)) starts.asks starts.entries is_settled.same_entries search_plays)
+
+  pub search_leads : KeepsInvariant (shown_from parts setup (first_machine parts setup first)) sums (run_after sums (search_after setup better opening (at_first setup)))
+  search_leads = rw same_run (led parts setup sums first s0 (run_after sums (search_coming parts setup better coming (first_machine parts setup first) s0)) starts.asks search_plays)
 
 -- ---- by the rules of a search
 
@@ -121,6 +144,13 @@ module _ {S : Type 0} (parts : Parts S) (first : S) (rules : Rules) where
         → Follows (shown_after parts first rules) (sums_under rules T) (run_after (sums_under rules T) (search_after (setup_of rules) better opening (at_first (setup_of rules))))
     laws_follow stands coming better opening T keeps =
         search_follows parts fit stands coming better opening (setup_of rules) (sums_under rules T) first keeps (IsConfig rules.space) (draws_allowed rules are) (few-steps parts first rules are) (steady-setup parts first rules are fit steady)
+
+    -- given the replies of a table, the incumbent that it shows keeps the invariant
+    pub laws_lead : (stands : S → PlainState → Type 0) (coming : S → Procedure Bool) (better : Settings → Settings → Procedure Bool) (opening : Procedure (Unit {0})) (T : Table)
+        → Keeps parts fit stands coming better opening (setup_of rules) (sums_under rules T) first
+        → KeepsInvariant (shown_after parts first rules) (sums_under rules T) (run_after (sums_under rules T) (search_after (setup_of rules) better opening (at_first (setup_of rules))))
+    laws_lead stands coming better opening T keeps =
+        search_leads parts fit stands coming better opening (setup_of rules) (sums_under rules T) first keeps (IsConfig rules.space) (draws_allowed rules are) (few-steps parts first rules are) (steady-setup parts first rules are fit steady)
 
     -- over a table whose aborts count as unsolved it goes through all asks to the end
     pub laws_finish : (stands : S → PlainState → Type 0) (coming : S → Procedure Bool) (better : Settings → Settings → Procedure Bool) (opening : Procedure (Unit {0})) (T : Table)

@@ -1,16 +1,20 @@
--- A search over any comparer, answered by total costs, shows the asks and the entries of the procedure.
-use Rattle.std.proofs.Common.{ℕ, zero, suc, ◌≡◌, ◌+◌, ◌≤◌, ◌<◌, Bool, true, false, List, [], ◌∷◌, ◌++◌, map, filter, take, length, slice_get, Option, Some, None, IfSome, IsSome, is_some, nat_le, cond, refl, sym, ◌∙◌, ap, arith, append_assoc, length-append}
+-- A search over any comparer, answered by total costs, shows the asks and the entries of the procedure, and its
+-- incumbent keeps the incumbent invariant.
+use Rattle.std.proofs.Common.{ℕ, zero, suc, ◌≡◌, ◌+◌, ◌≤◌, ◌<◌, Bool, true, false, List, [], ◌∷◌, ◌++◌, map, filter, take, length, slice_get, Option, Some, None, IfSome, IsSome, is_some, nat_le, cond, refl, sym, ◌∙◌, ap, subst, arith, append_assoc, length-append}
 use Rattle.std.proofs.lemmas.Bool.{leb-true, le-leb}
 use Rattle.std.proofs.lemmas.List.{append-nil, map-append}
 use Rattle.std.proofs.lemmas.List.Elements.{filter-append}
+use Rattle.std.proofs.lemmas.List.Sums.{fold-append}
 use Rattle.objective.specs.Limits
 use Rattle.uncapped.specs.Procedure.{Settings, Sums, Question, Incumbent, Addition, PlainState, Finished, Aborted, Procedure}
 use Rattle.uncapped.specs.Setup.{Setup}
+use Rattle.uncapped.specs.Evaluation.{counts_after}
 use Rattle.uncapped.specs.Uncapped.{Run, run_after, or_nothing}
 use Rattle.ils_face.specs.declared.asks.Reply.{Reply}
 use Rattle.ils_face.specs.Replies.{Fits, ask_of, reply_up_to, cost_asked, reply_to}
 use Rattle.ils_frame.specs.Comparers.{AskedStage, Ready, Asking, Decided, is_asking, question_in, Parts, IsSteadyComparer, additions_after, Keeps}
 use Rattle.ils_frame.specs.Machine.{Machine, next_machine, after_all, view_of}
+use Rattle.ils_frame.specs.ShownIncumbents.{runs_after, HasInvariant}
 use Rattle.ils_frame.specs.Laws.StandsFor.{answered_state, search_coming, IsSound, StandsAfter, stands_after, aborts, finishes}
 use Rattle.ils_frame.specs.Laws.AllowedConfigs.{DrawsAllowed}
 use Rattle.ils_frame.specs.Laws.MachineInvariant.{Replied, replies, not-asking}
@@ -71,6 +75,7 @@ pub record Plays {S : Type 0} (parts : Parts S) (setup : Setup) (sums : Sums) (f
   pub shown_asks : (k : ℕ) → k ≤ count → question_in (parts.stage (after_all parts setup f (map (reply_to sums) (take k rest))).comparer) ≡ slice_get rest k
   pub shown_entries : (k : ℕ) → k ≤ count → parts.entries (after_all parts setup f (map (reply_to sums) (take k rest))).comparer ≡ parts.entries f.comparer ++ map entry_in (filter (is_before (length s.asks + k)) late)
   pub known : (k : ℕ) → k < count → IfSome (slice_get rest k) (λ q. IsSome (cost_asked sums q))
+  pub led : (k : ℕ) → k ≤ count → HasInvariant sums (s.asks ++ take k rest) (parts.last (after_all parts setup f (map (reply_to sums) (take k rest))).comparer)
   pub finished : run.end ≡ Finished → (length rest ≡ count) × (parts.entries (after_all parts setup f (map (reply_to sums) rest)).comparer ≡ parts.entries f.comparer ++ map entry_in late)
       × (parts.last (after_all parts setup f (map (reply_to sums) rest)).comparer ≡ run.last)
   pub aborted : run.end ≡ Aborted → (length rest ≡ suc count) × IfSome (slice_get rest count) (λ q. cost_asked sums q ≡ None)
@@ -82,6 +87,10 @@ not_finished e = absurd (cc)
 
 not_aborted : {A : Type 0} → Finished ≡ Aborted → A
 not_aborted e = absurd (cc)
+
+-- one more ask counts
+runs_after-more : (asks : List Question) (q : Question) → runs_after (asks ++ q ∷ []) ≡ counts_after (runs_after asks) q.config q.places
+runs_after-more asks q = fold-append (λ counts q. counts_after counts q.config q.places) (λ _. 0) asks (q ∷ [])
 
 some_known : (o : Option ℕ) (x : ℕ) → o ≡ Some x → IsSome o
 some_known o x e = ap is_some e
@@ -96,6 +105,31 @@ module _ {S : Type 0} (parts : Parts S) (fit : S → Type 0) (stands : S → Pla
   abbrev PlaysFrom : Machine S → PlainState → Type 0
   PlaysFrom f s = Plays parts setup sums f s (run_after sums (search_coming parts setup better coming f s))
 
+  -- the counts of a state are those by its asks
+  abbrev IsCounted : PlainState → Type 0
+  IsCounted s = s.counts ≡ runs_after s.asks
+
+  led_here : (f : Machine S) (s : PlainState) → Sound f s → IsCounted s → HasInvariant sums (s.asks ++ []) (parts.last f.comparer)
+  led_here f s k c = subst (λ qs. HasInvariant sums qs (parts.last f.comparer)) (sym (append-nil s.asks)) (record {
+    state = s;
+    asked = refl;
+    counted = c;
+    shown = keeps.last f.comparer s k.stays_fitting.stays_fit k.stays;
+    invariant = keeps.leads f.comparer s k.stays_fitting.stays_fit k.stays;
+  })
+
+  led_nothing : (f : Machine S) (s : PlainState) → HasInvariant sums (s.asks ++ []) (parts.last f.comparer) → (k : ℕ) → k ≤ 0
+      → HasInvariant sums (s.asks ++ take k []) (parts.last (after_all parts setup f (map (reply_to sums) (take k []))).comparer)
+  unfolding after_all
+  led_nothing f s here zero h = here
+  led_nothing f s here (suc k) h = absurd (omega (arith, h))
+
+  led_one : (f : Machine S) (s : PlainState) (q : Question) → HasInvariant sums (s.asks ++ []) (parts.last f.comparer) → (k : ℕ) → k ≤ 0
+      → HasInvariant sums (s.asks ++ take k (q ∷ [])) (parts.last (after_all parts setup f (map (reply_to sums) (take k (q ∷ [])))).comparer)
+  unfolding after_all
+  led_one f s q here zero h = here
+  led_one f s q here (suc k) h = absurd (omega (arith, h))
+
   asks_nothing : (f : Machine S) → question_in (parts.stage f.comparer) ≡ None → (k : ℕ) → k ≤ 0 → question_in (parts.stage (after_all parts setup f (map (reply_to sums) (take k []))).comparer) ≡ slice_get [] k
   unfolding after_all
   asks_nothing f none zero h = none
@@ -106,9 +140,9 @@ module _ {S : Type 0} (parts : Parts S) (fit : S → Type 0) (stands : S → Pla
   shows_same f n zero h = sym (append-nil (parts.entries f.comparer))
   shows_same f n (suc k) h = absurd (omega (arith, h))
 
-  done : (f : Machine S) (s : PlainState) → Sound f s → is_asking (parts.stage f.comparer) ≡ false → PlaysFrom f s
+  done : (f : Machine S) (s : PlainState) → Sound f s → IsCounted s → is_asking (parts.stage f.comparer) ≡ false → PlaysFrom f s
   unfolding after_all
-  done f s k e = rw (finishes parts fit stands coming better opening setup sums first keeps allowed draws few_steps steady fitting f s k e) (record {
+  done f s k c e = rw (finishes parts fit stands coming better opening setup sums first keeps allowed draws few_steps steady fitting f s k e) (record {
     rest = [];
     late = [];
     count = 0;
@@ -118,6 +152,7 @@ module _ {S : Type 0} (parts : Parts S) (fit : S → Type 0) (stands : S → Pla
     shown_asks = asks_nothing f (not-asking (parts.stage f.comparer) e);
     shown_entries = shows_same f (length s.asks);
     known = λ k h. absurd (omega (arith, h));
+    led = led_nothing f s (led_here f s k c);
     finished = λ o. (refl, sym (append-nil (parts.entries f.comparer)), keeps.last f.comparer s k.stays_fitting.stays_fit k.stays);
     aborted = λ o. not_aborted o;
   })
@@ -132,9 +167,9 @@ module _ {S : Type 0} (parts : Parts S) (fit : S → Type 0) (stands : S → Pla
   shows_none f q n zero h = sym (append-nil (parts.entries f.comparer))
   shows_none f q n (suc k) h = absurd (omega (arith, h))
 
-  stopped : (f : Machine S) (s : PlainState) (q : Question) → Sound f s → parts.stage f.comparer ≡ Asking q → cost_asked sums q ≡ None → PlaysFrom f s
+  stopped : (f : Machine S) (s : PlainState) (q : Question) → Sound f s → IsCounted s → parts.stage f.comparer ≡ Asking q → cost_asked sums q ≡ None → PlaysFrom f s
   unfolding after_all
-  stopped f s q k e unknown = rw (aborts parts fit stands coming better opening setup sums first keeps allowed draws few_steps steady fitting f s q k e unknown) (record {
+  stopped f s q k c e unknown = rw (aborts parts fit stands coming better opening setup sums first keeps allowed draws few_steps steady fitting f s q k e unknown) (record {
     rest = q ∷ [];
     late = [];
     count = 0;
@@ -144,6 +179,7 @@ module _ {S : Type 0} (parts : Parts S) (fit : S → Type 0) (stands : S → Pla
     shown_asks = asks_one f q (ap question_in e);
     shown_entries = shows_none f q (length s.asks);
     known = λ k h. absurd (omega (arith, h));
+    led = led_one f s q (led_here f s k c);
     finished = λ o. not_finished o;
     aborted = λ o. (refl, unknown, sym (append-nil (parts.entries f.comparer)));
   })
@@ -163,9 +199,9 @@ module _ {S : Type 0} (parts : Parts S) (fit : S → Type 0) (stands : S → Pla
     unfolding after_all
     on rs = ap (λ r. after_all parts setup (next_machine parts setup f r) rs) replied_so
 
-    goes_on_playing : StandsAfter parts fit stands coming better opening setup sums first keeps allowed draws few_steps steady fitting f s q (reply_up_to x q.bound) → PlaysFrom g u → PlaysFrom f s
+    goes_on_playing : HasInvariant sums (s.asks ++ []) (parts.last f.comparer) → StandsAfter parts fit stands coming better opening setup sums first keeps allowed draws few_steps steady fitting f s q (reply_up_to x q.bound) → PlaysFrom g u → PlaysFrom f s
     unfolding after_all
-    goes_on_playing t p = rw t.same (record {
+    goes_on_playing here t p = rw t.same (record {
       rest = q ∷ p.rest;
       late = additions_after (length s.asks + 1) new ++ p.late;
       count = suc p.count;
@@ -176,6 +212,7 @@ module _ {S : Type 0} (parts : Parts S) (fit : S → Type 0) (stands : S → Pla
       shown_asks = asks_on;
       shown_entries = entries_on;
       known = known_on;
+      led = led_on;
       finished = λ o. (
         ap suc (p.finished o).0,
         ap (λ m. parts.entries m.comparer) (on (map (reply_to sums) p.rest)) ∙ (p.finished o).1 ∙ joined (map entry_in p.late),
@@ -225,6 +262,14 @@ module _ {S : Type 0} (parts : Parts S) (fit : S → Type 0) (stands : S → Pla
             ∙ sym (map-append entry_in (additions_after (length s.asks + 1) new) (filter (is_before (length u.asks + k)) p.late))
             ∙ ap (map entry_in) (sym (sorted k)))
 
+        led_on : (k : ℕ) → k ≤ suc p.count → HasInvariant sums (s.asks ++ take k (q ∷ p.rest)) (parts.last (after_all parts setup f (map (reply_to sums) (take k (q ∷ p.rest)))).comparer)
+        led_on zero h = here
+        led_on (suc k) h =
+            let rs : List Reply = map (reply_to sums) (take k p.rest) in
+            let asks : u.asks ++ take k p.rest ≡ s.asks ++ (q ∷ take k p.rest) = ap (λ qs. qs ++ take k p.rest) t.asks ∙ append_assoc s.asks (q ∷ []) (take k p.rest) in
+            subst (λ m. HasInvariant sums (s.asks ++ (q ∷ take k p.rest)) (parts.last m.comparer)) (sym (on rs))
+            (subst (λ qs. HasInvariant sums qs (parts.last (after_all parts setup g rs).comparer)) asks (p.led k (omega (arith, h))))
+
         known_on : (k : ℕ) → k < suc p.count → IfSome (slice_get (q ∷ p.rest) k) (λ q. IsSome (cost_asked sums q))
         known_on zero h = some_known (cost_asked sums q) x known
         known_on (suc k) h = p.known k (omega (arith, h))
@@ -232,22 +277,23 @@ module _ {S : Type 0} (parts : Parts S) (fit : S → Type 0) (stands : S → Pla
   left_of : Machine S → ℕ
   left_of f = (view_of parts setup f).left
 
-  pub plays : (fuel : ℕ) (f : Machine S) (s : PlainState) → Sound f s → (view_of parts setup f).left < fuel → PlaysFrom f s
-  plays zero f s k h = absurd (omega (arith, h))
-  plays (suc fuel) f s k h = at_stage (λ g u. plays fuel g u) (parts.stage f.comparer) refl
+  pub plays : (fuel : ℕ) (f : Machine S) (s : PlainState) → Sound f s → IsCounted s → (view_of parts setup f).left < fuel → PlaysFrom f s
+  plays zero f s k c h = absurd (omega (arith, h))
+  plays (suc fuel) f s k c h = at_stage (λ g u. plays fuel g u) (parts.stage f.comparer) refl
     where
       IH : Type 0
-      IH = (g : Machine S) (u : PlainState) → Sound g u → (view_of parts setup g).left < fuel → PlaysFrom g u
+      IH = (g : Machine S) (u : PlainState) → Sound g u → IsCounted u → (view_of parts setup g).left < fuel → PlaysFrom g u
 
       at_cost : IH → (q : Question) → parts.stage f.comparer ≡ Asking q → (o : Option ℕ) → cost_asked sums q ≡ o → PlaysFrom f s
-      at_cost ih q e None c = stopped f s q k e c
-      at_cost ih q e (Some x) c =
-          let t : StandsAfter parts fit stands coming better opening setup sums first keeps allowed draws few_steps steady fitting f s q (reply_up_to x q.bound) = stands_after parts fit stands coming better opening setup sums first keeps allowed draws few_steps steady fitting f s q x k e c in
+      at_cost ih q e None w = stopped f s q k c e w
+      at_cost ih q e (Some x) w =
+          let t : StandsAfter parts fit stands coming better opening setup sums first keeps allowed draws few_steps steady fitting f s q (reply_up_to x q.bound) = stands_after parts fit stands coming better opening setup sums first keeps allowed draws few_steps steady fitting f s q x k e w in
           let n : Replied parts fit setup allowed draws few_steps first steady f q (reply_up_to x q.bound) = replies parts fit setup allowed draws few_steps first steady f q (reply_up_to x q.bound) k.stays_fitting e (fitting q x) in
           let m : (view_of parts setup (next_machine parts setup f (reply_up_to x q.bound))).left < (view_of parts setup f).left = n.falls in
-          goes_on_playing f s q x e c t (ih (next_machine parts setup f (reply_up_to x q.bound)) (answered_state parts setup f (reply_up_to x q.bound) s) t.sound (omega (arith, h, m)))
+          let counted : IsCounted (answered_state parts setup f (reply_up_to x q.bound) s) = t.counts ∙ ap (λ counts. counts_after counts q.config q.places) c ∙ sym (runs_after-more s.asks q) ∙ ap runs_after (sym t.asks) in
+          goes_on_playing f s q x e w (led_here f s k c) t (ih (next_machine parts setup f (reply_up_to x q.bound)) (answered_state parts setup f (reply_up_to x q.bound) s) t.sound counted (omega (arith, h, m)))
 
       at_stage : IH → (p : AskedStage) → parts.stage f.comparer ≡ p → PlaysFrom f s
-      at_stage ih Ready e = done f s k (ap is_asking e)
+      at_stage ih Ready e = done f s k c (ap is_asking e)
       at_stage ih (Asking q) e = at_cost ih q e (cost_asked sums q) refl
-      at_stage ih (Decided b) e = done f s k (ap is_asking e)
+      at_stage ih (Decided b) e = done f s k c (ap is_asking e)

@@ -4,7 +4,7 @@ use Rattle.std.proofs.lemmas.Bool.{false≢true}
 use Rattle.objective.specs.Limits
 use Rattle.uncapped.specs.Procedure.{Settings, Sums, Question, PlainState, Finished, Aborted, Ends, Procedure, goes_on, ◌>>=◌, stop}
 use Rattle.uncapped.specs.Setup.{Setup}
-use Rattle.uncapped.specs.Evaluation.{after_ask}
+use Rattle.uncapped.specs.Evaluation.{after_ask, counts_after}
 use Rattle.uncapped.specs.Searching.{compare}
 use Rattle.ils_face.specs.declared.asks.Reply.{Reply}
 use Rattle.ils_face.specs.Replies.{Fits, ask_of, reply_up_to, cost_asked}
@@ -107,15 +107,16 @@ module _ {S : Type 0} (parts : Parts S) (fit : S → Type 0) (stands : S → Pla
   settles c s f h purpose e k = subst (λ n. (coming c >>= continuation setup better purpose) s ≡ coming_of (settle parts setup c purpose n (decision_in (parts.stage c))) (settle_state parts setup c purpose n (decision_in (parts.stage c)) s)) k
       (settles_at c s f h purpose (parts.stage c) refl)
 
-  -- what a settled machine stands for: nothing was asked or added, and the next draw has its number
+  -- what a settled machine stands for: nothing was asked, counted or added, and the next draw has its number
   pub record StandsFor (s : PlainState) (f : Machine S) (t : PlainState) : Type 0 where
     pub stays : stands f.comparer t
     pub event : f.over ≡ false → t.event ≡ f.event
     pub asks : t.asks ≡ s.asks
+    pub counts : t.counts ≡ s.counts
     pub entries : t.entries ≡ s.entries
 
   begin_stands : (c : S) (s : PlainState) → fit c → stands c s → question_in (parts.stage c) ≡ None → (n : Next) → StandsFor s (begin parts setup c n) (begin_state parts setup c n s)
-  begin_stands c s f h none (Finish e) = record { stays = keeps.redrawn c s e h; event = λ o. refl; asks = refl; entries = refl }
+  begin_stands c s f h none (Finish e) = record { stays = keeps.redrawn c s e h; event = λ o. refl; asks = refl; counts = refl; entries = refl }
   begin_stands c s f h none (Compare purpose θ φ e) = at_either ((parts.last c).compared == setup.budget)
     where
       machine : Bool → Machine S
@@ -130,13 +131,13 @@ module _ {S : Type 0} (parts : Parts S) (fit : S → Type 0) (stands : S → Pla
       started = keeps.begins c (at_event s e) θ φ ((parts.last c).compared + 1) f (keeps.redrawn c s e h) none
 
       at_either : (over : Bool) → StandsFor s (machine over) (moved over)
-      at_either true = record { stays = keeps.redrawn c s e h; event = λ o. refl; asks = refl; entries = refl }
-      at_either false = record { stays = started.stays; event = λ o. started.unasked.event; asks = started.unasked.asks; entries = started.unasked.entries }
+      at_either true = record { stays = keeps.redrawn c s e h; event = λ o. refl; asks = refl; counts = refl; entries = refl }
+      at_either false = record { stays = started.stays; event = λ o. started.unasked.event; asks = started.unasked.asks; counts = started.unasked.counts; entries = started.unasked.entries }
 
   settle_stands_at : (c : S) (s : PlainState) → fit c → stands c s → (purpose : Purpose) (e : ℕ) → s.event ≡ e → (p : AskedStage) → parts.stage c ≡ p
       → StandsFor s (settle parts setup c purpose e (decision_in p)) (settle_state parts setup c purpose e (decision_in p) s)
   unfolding settle settle_state
-  settle_stands_at c s f h purpose e k (Asking q) t = record { stays = h; event = λ o. k; asks = refl; entries = refl }
+  settle_stands_at c s f h purpose e k (Asking q) t = record { stays = h; event = λ o. k; asks = refl; counts = refl; entries = refl }
   settle_stands_at c s f h purpose e k Ready t = begin_stands c s f h (ap question_in t) (next setup (parts.last c).compared purpose false e)
   settle_stands_at c s f h purpose e k (Decided b) t = begin_stands c s f h (ap question_in t) (next setup (parts.last c).compared purpose b e)
 
@@ -157,6 +158,7 @@ module _ {S : Type 0} (parts : Parts S) (fit : S → Type 0) (stands : S → Pla
       pub sound : IsSound (next_machine parts setup f r) (answered_state parts setup f r s)
       pub same : coming_of f s ≡ coming_of (next_machine parts setup f r) (answered_state parts setup f r s)
       pub asks : (answered_state parts setup f r s).asks ≡ s.asks ++ q ∷ []
+      pub counts : (answered_state parts setup f r s).counts ≡ counts_after s.counts q.config q.places
       pub entries : (answered_state parts setup f r s).entries ≡ s.entries ++ additions_after (length s.asks + 1) (parts.added f.comparer r)
       pub grown : parts.entries (next_machine parts setup f r).comparer ≡ parts.entries f.comparer ++ parts.added f.comparer r
 
@@ -177,6 +179,7 @@ module _ {S : Type 0} (parts : Parts S) (fit : S → Type 0) (stands : S → Pla
           same = live_coming f s o ∙ ap (λ a. goes_on a (continuation setup better f.purpose)) g.same
               ∙ settles (parts.after f.comparer r) (parts.replied f.comparer r s) a.stays_fit g.stays f.purpose f.event event;
           asks = u.asks ∙ g.advanced.asks;
+          counts = u.counts ∙ g.advanced.counts;
           entries = u.entries ∙ g.advanced.entries;
           grown = t.same_entries ∙ a.grown;
         }
