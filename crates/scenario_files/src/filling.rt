@@ -111,19 +111,37 @@ fn folder(alloc: Global, given: Option<Text>) -> Result<Text, Memory>
     }
 }
 
+/// The keys that have no default, and the folder. Fails where one of those keys is not given.
+fn essentials_in(
+    alloc: Global,
+    algo: Option<Text>,
+    cutoff_time: Option<Micros>,
+    paramfile: Option<Text>,
+    instance_file: Option<Text>,
+    execdir: Option<Text>,
+) -> Result<(Essentials, Text), Refused>
+    ensures value { IfOk result (λ r. Scenarios.essentials_of algo cutoff_time paramfile instance_file ≡ Ok r.0) }
+    ensures folder { IfOk result (λ r. r.1 ≡ unwrap_or execdir (codes ".")) }
+    ensures fault { FailsAs rule_of result (Scenarios.essentials_of algo cutoff_time paramfile instance_file) }
+{
+    let given = essentials_of(algo, cutoff_time, paramfile, instance_file)?;
+    Ok((given, folder(alloc, execdir)?))
+}
+
 /// The scenario of a draft. Fails where a key without a default is not given.
 #[tactic(auto, unfolding(crate::specs::Scenarios::scenario_of))]
 fn scenario_of(alloc: Global, draft: Draft) -> Result<Scenario, Refused>
     ensures value { IfOk result (λ s. Scenarios.scenario_of draft ≡ Ok s) }
     ensures fault { FailsAs rule_of result (Scenarios.scenario_of draft) }
 {
-    let given = essentials_of(
+    let (given, execdir) = essentials_in(
+        alloc,
         draft.algo,
         draft.cutoff_time,
         draft.paramfile,
         draft.instance_file,
+        draft.execdir,
     )?;
-    let execdir = folder(alloc, draft.execdir)?;
     Ok(Scenario {
         algo: given.algo,
         execdir,

@@ -1,5 +1,6 @@
 //! A draft takes a key.
-ghost use Rattle.std.specs.Prelude.{◌≡◌, Ok, OnOk, IfOk};
+ghost use Rattle.std.specs.Prelude.{◌≡◌, Some, None, Ok, OnOk, IfOk, IfErr};
+ghost use Rattle.std.specs.Result.{IsOkAnd};
 ghost use Rattle.plain_text.specs.Faults.{FailsAs};
 ghost use Rattle.scenario_files.specs.Drafts.{has_key, with_value, with_key, with_name};
 ghost use Rattle.scenario_files.specs.Faults.{rule_of};
@@ -25,6 +26,33 @@ pub(crate) fn text_of(alloc: Global, text: &str) -> Result<Text, Refused>
         return Err(Refused::Value(ScenarioWhat::BadValue));
     }
     Ok(Text::of(alloc, text)?)
+}
+
+/// Puts a value that was read at its place, or hands on what is wrong with it.
+fn put<T: Drop>(place: &mut Option<T>, read: Result<T, ScenarioWhat>) -> Result<(), Refused>
+    ensures value { OnOk result (IsOkAnd read (λ x. place.new ≡ Some x)) }
+    ensures fault { FailsAs rule_of result read }
+{
+    *place = Some(read?);
+    Ok(())
+}
+
+/// Puts a text that isn't of blanks alone at its place.
+fn put_text(place: &mut Option<Text>, alloc: Global, text: &str) -> Result<(), Refused>
+    ensures value { OnOk result (IsOkAnd (Values.text_of text.now) (λ t. place.new ≡ Some t)) }
+    ensures fault { FailsAs rule_of result (Values.text_of text.now) }
+{
+    *place = Some(text_of(alloc, text)?);
+    Ok(())
+}
+
+/// Puts any text at its place.
+fn put_any(place: &mut Option<Text>, alloc: Global, text: &str) -> Result<(), Refused>
+    ensures value { OnOk result (place.new ≡ Some text.now) }
+    ensures fault { IfErr result (λ e. rule_of e ≡ None) }
+{
+    *place = Some(Text::of(alloc, text)?);
+    Ok(())
 }
 
 impl Draft {
@@ -66,35 +94,33 @@ impl Draft {
         ensures fault { FailsAs rule_of result (with_value self.old key text.now) }
     {
         match key {
-            Key::Algo => self.algo = Some(text_of(alloc, text)?),
-            Key::Execdir => self.execdir = Some(text_of(alloc, text)?),
-            Key::Deterministic => self.deterministic = Some(flag_of(text)?),
-            Key::RunObj => self.run_obj = Some(run_obj_of(text)?),
-            Key::OverallObj => self.overall_obj = Some(overall_of(text)?),
-            Key::CutoffTime => self.cutoff_time = Some(time_within(1, MAX_CUTOFF, text)?),
-            Key::CutoffLength => self.cutoff_length = Some(cutoff_length_of(text)?),
-            Key::TunerTimeout => self.tuner_timeout = Some(Text::of(alloc, text)?),
-            Key::Paramfile => self.paramfile = Some(text_of(alloc, text)?),
-            Key::Outdir => self.outdir = Some(Text::of(alloc, text)?),
-            Key::ValidN => self.valid_n = Some(Text::of(alloc, text)?),
-            Key::InstanceFile => self.instance_file = Some(text_of(alloc, text)?),
-            Key::TestInstanceFile => self.test_instance_file = Some(text_of(alloc, text)?),
-            Key::Approach => self.approach = Some(approach_of(text)?),
-            Key::N => self.n = Some(count_within(1, MAX_RUNS, text)?),
-            Key::NumRun => self.num_run = Some(count_within(0, u32::MAX, text)?),
-            Key::MaxComparisons => self.max_comparisons = Some(count_within(
-                0,
-                MAX_COMPARISONS,
-                text,
-            )?),
-            Key::Workers => self.workers = Some(count_within(1, MAX_WORKERS, text)?),
-            Key::R => self.r = Some(count_within(0, MAX_INITIAL, text)?),
-            Key::S => self.s = Some(count_within(1, MAX_STRENGTH, text)?),
-            Key::PRestart => self.p_restart = Some(share_of(text)?),
-            Key::CapFloor => self.cap_floor = Some(time_within(1, u64::MAX, text)?),
-            Key::PairOrder => self.pair_order = Some(pair_order_of(text)?),
+            Key::Algo => put_text(&mut self.algo, alloc, text),
+            Key::Execdir => put_text(&mut self.execdir, alloc, text),
+            Key::Deterministic => put(&mut self.deterministic, flag_of(text)),
+            Key::RunObj => put(&mut self.run_obj, run_obj_of(text)),
+            Key::OverallObj => put(&mut self.overall_obj, overall_of(text)),
+            Key::CutoffTime => put(&mut self.cutoff_time, time_within(1, MAX_CUTOFF, text)),
+            Key::CutoffLength => put(&mut self.cutoff_length, cutoff_length_of(text)),
+            Key::TunerTimeout => put_any(&mut self.tuner_timeout, alloc, text),
+            Key::Paramfile => put_text(&mut self.paramfile, alloc, text),
+            Key::Outdir => put_any(&mut self.outdir, alloc, text),
+            Key::ValidN => put_any(&mut self.valid_n, alloc, text),
+            Key::InstanceFile => put_text(&mut self.instance_file, alloc, text),
+            Key::TestInstanceFile => put_text(&mut self.test_instance_file, alloc, text),
+            Key::Approach => put(&mut self.approach, approach_of(text)),
+            Key::N => put(&mut self.n, count_within(1, MAX_RUNS, text)),
+            Key::NumRun => put(&mut self.num_run, count_within(0, u32::MAX, text)),
+            Key::MaxComparisons => put(
+                &mut self.max_comparisons,
+                count_within(0, MAX_COMPARISONS, text),
+            ),
+            Key::Workers => put(&mut self.workers, count_within(1, MAX_WORKERS, text)),
+            Key::R => put(&mut self.r, count_within(0, MAX_INITIAL, text)),
+            Key::S => put(&mut self.s, count_within(1, MAX_STRENGTH, text)),
+            Key::PRestart => put(&mut self.p_restart, share_of(text)),
+            Key::CapFloor => put(&mut self.cap_floor, time_within(1, u64::MAX, text)),
+            Key::PairOrder => put(&mut self.pair_order, pair_order_of(text)),
         }
-        Ok(())
     }
 
     /// Takes a key with its value. Fails where the key was given before, or with what is
