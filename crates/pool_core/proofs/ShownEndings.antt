@@ -47,7 +47,7 @@ aborts-at limits T End cell within h = absurd h
 
 -- why a board is aborted where a truth is told, by the ending
 pub ending-aborts : (shown : Rules → List Reply → View) (procedure : Rules → Table → Run) (truth : Option (Key → Outcome))
-    → (b : BoardState) (e : Ending) → IsEnding shown b e → BoardInvariant shown procedure truth b → IsSome truth → IsTrueAbort shown truth b e
+    → (b : BoardState) (e : Ending) → IsEnding shown b e → BoardInvariant shown procedure truth b → IsSome truth → IsTrueAbort shown (table_of truth b.problem) b e
 unfolding plain_board
 ending-aborts shown procedure truth b Running is inv told = tt
 ending-aborts shown procedure truth b Finished is inv told = tt

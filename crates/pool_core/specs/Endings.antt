@@ -16,7 +16,6 @@ use Rattle.ils_face.specs.Views.{View}
 use Rattle.run_cache.specs.declared.cell.Cell.{Cell}
 use Rattle.capping.specs.Decisions.{IsFirstAbort}
 use Rattle.board_steps.specs.Boards.{BoardState}
-use Rattle.board_steps.specs.ProblemRuns.{table_of}
 use Rattle.board_steps.specs.RepliedAsks.{quiet_by}
 use Rattle.board_steps.specs.ShownEntries.{true_by, ShowsAll, ShowsAborted}
 use Rattle.pool_core.specs.declared.board.Ending.{Ending}
@@ -47,13 +46,12 @@ pub record AbortsAt (limits : Bounds) (T : Table) (cell : Cell) (question : Ques
   pub place : cell.place ≤ question.places
   pub first : IsFirstAbort limits T cell.place question
 
--- over this truth the run of the cell is the first one of a board's present ask that aborts
-abbrev pub AbortsFirst : (Rules → List Reply → View) → Option (Key → Outcome) → BoardState → Cell → Type 0
-AbortsFirst shown truth b cell =
-    IsSomeAnd (question_of (shown b.problem.rules b.replies).ask) (AbortsAt b.problem.rules.limits (table_of truth b.problem) cell)
+-- over this table the run of the cell is the first one of a board's present ask that aborts
+abbrev pub AbortsFirst : (Rules → List Reply → View) → Table → BoardState → Cell → Type 0
+AbortsFirst shown T b cell = IsSomeAnd (question_of (shown b.problem.rules b.replies).ask) (AbortsAt b.problem.rules.limits T cell)
 
--- an ending by an abort is one over this truth
-abbrev pub IsTrueAbort : (Rules → List Reply → View) → Option (Key → Outcome) → BoardState → Ending → Type 0
-IsTrueAbort shown truth b Running = Unit {0}
-IsTrueAbort shown truth b Finished = Unit {0}
-IsTrueAbort shown truth b (Aborted cell) = AbortsFirst shown truth b cell.now
+-- an ending by an abort is one over this table
+abbrev pub IsTrueAbort : (Rules → List Reply → View) → Table → BoardState → Ending → Type 0
+IsTrueAbort shown T b Running = Unit {0}
+IsTrueAbort shown T b Finished = Unit {0}
+IsTrueAbort shown T b (Aborted cell) = AbortsFirst shown T b cell.now

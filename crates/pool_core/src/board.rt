@@ -15,10 +15,10 @@ ghost use Rattle.pool_core.specs.Endings.{IsEnding, IsTrueAbort, ShowsTruth};
 ghost use Rattle.pool_core.specs.OpenBoards.{IsRunnableAt};
 
 use crate::present_asks::verdict_by;
-use board_steps::{BoardVerdict, Event, Ledger, Problem, Standing, Ticket};
+use board_steps::{BoardVerdict, Event, Ledger, Problem, Standing, Ticket, Truth};
 use capping::Verdict;
 use ils_face::{Ask, Search};
-use objective::Memory;
+use objective::{Memory, World};
 use outside::Spawner;
 use predictor::Wish;
 use run_cache::{Cache, Cell};
@@ -162,7 +162,8 @@ impl<P: Search, S: Spawner> Board<P, S> {
     pub fn ending(&self) -> Ending<'_>
         ensures ending { IsEnding P.shown self.now result }
         ensures shows { IsSome S.truth → ShowsTruth P.shown P.plain S.truth self.now result }
-        ensures aborts { IsSome S.truth → IsTrueAbort P.shown S.truth self.now result }
+        ensures aborts { let truth = ⟦<Truth<S> as World>⟧.outcome self.now.problem in
+            IsSome S.truth → IsTrueAbort P.shown truth self.now result }
     {
         self.is_board();
         self.present_ending()

@@ -101,7 +101,7 @@ module _ (call : Call) (task : Task) (truth : Option (Key → Outcome)) (shown :
   module _ (inv : BoardInvariant shown procedure truth b)
       (follows : (rules : Rules) (T : Table) → AreRules rules → Follows (shown rules) (sums_under rules T) (procedure rules T)) where
     -- the cell that is set as aborted, at the present ask
-    abort_on : (cell : Cell) → b.aborted ≡ Some cell → IsAsk b.problem.rules view.ask → (IsSome truth → AbortsFirst shown truth b cell)
+    abort_on : (cell : Cell) → b.aborted ≡ Some cell → IsAsk b.problem.rules view.ask → (IsSome truth → AbortsFirst shown (table_of truth b.problem) b cell)
         → IsAbortCause b.problem truth (ask_over truth own (length b.replies)) cell
     unfolding plain_board
     abort_on cell is asked first =
@@ -118,7 +118,7 @@ module _ (call : Call) (task : Task) (truth : Option (Key → Outcome)) (shown :
         }
 
     -- a child aborted the search
-    pub aborted_call : (cell : Cell) → b.aborted ≡ Some cell → IsAsk b.problem.rules view.ask → (IsSome truth → AbortsFirst shown truth b cell)
+    pub aborted_call : (cell : Cell) → b.aborted ≡ Some cell → IsAsk b.problem.rules view.ask → (IsSome truth → AbortsFirst shown (table_of truth b.problem) b cell)
         → (IsSome truth → ShowsAborted view (true_by procedure truth b.problem) (quiet_by procedure truth b.problem))
         → Reported out out' result (status.Aborted cell) (lines_with b.problem.rules.space view.entries (aborted_line b.problem.rules.space cell.place cell.config))
         → Conducted call out out' result

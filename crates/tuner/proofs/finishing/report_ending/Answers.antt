@@ -32,7 +32,7 @@ returns-in-Ok g c = λ call runs starts.
     let shown = g.P.Search.shown in
     let A : Rules → List Reply → Type 0 = λ rules replies. IsAsk rules (shown rules replies).ask in
     let asked = by_board A _ _ _ _ c.search-search.ensures.rules c.search-search.ensures.replies c.keeps_laws.ensures.ask in
-    let F : Cell → Type 0 = λ cell. IsSome g.S.Spawner.truth → AbortsFirst shown g.S.Spawner.truth c.args.board.now cell in
+    let F : Cell → Type 0 = λ cell. IsSome g.S.Spawner.truth → AbortsFirst shown (table_of g.S.Spawner.truth c.args.board.now.problem) c.args.board.now cell in
     let first = subst F (sym c.in-Ok.ensures) c.in-Aborted.ensures.aborts in
     aborted_call call c.args.task.now g.S.Spawner.truth shown g.P.Search.plain c.args.board.now c.requires.board runs _ _ _
     c.is_board.ensures g.met.P.Search.follows c.in-Ok.cell (c.in-Aborted.ensures.ending ∙ ap Some (sym c.in-Ok.ensures)) asked first c.in-Aborted.ensures.shows
