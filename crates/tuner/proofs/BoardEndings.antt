@@ -15,7 +15,6 @@ use Rattle.ils_face.specs.Replies.{entries_before}
 use Rattle.ils_face.specs.Rules.{Rules, AreRules}
 use Rattle.ils_face.specs.Setups.{setup_of}
 use Rattle.ils_face.specs.Steady.{IsSteady, IsAsk, Grows}
-use Rattle.ils_face.specs.Traces.{question_of}
 use Rattle.ils_face.specs.Views.{View}
 use Rattle.run_cache.specs.declared.cell.Cell.{Cell}
 use Rattle.run_cache.specs.Runs.{IsDue}

@@ -1,6 +1,5 @@
 -- Whether a key is that of a cell, setting by setting.
-use Rattle.std.proofs.Common.{arith, ℕ, zero, suc, ◌≡◌, ◌<◌, ◌≤◌, ◌+◌, ◌&&◌, ◌==◌, ◌↔◌, Bool, true, false, List, [], ◌∷◌, length, map, get_or, drop, Option, Some, None, IsTrue, bytes_eq, nat_eq, slice_get, refl, sym, ap, ◌∙◌, if◌then◌else◌}
-use Rattle.std.specs.Bool.{Decides}
+use Rattle.std.proofs.Common.{arith, ℕ, zero, suc, ◌≡◌, ◌<◌, ◌≤◌, ◌+◌, ◌&&◌, ◌==◌, ◌↔◌, Bool, true, false, List, [], ◌∷◌, length, map, get_or, drop, Some, IsTrue, bytes_eq, nat_eq, slice_get, refl, sym, ap, ◌∙◌, if◌then◌else◌}
 use Rattle.std.specs.List.{slice_index_or}
 use Rattle.std.proofs.lemmas.Bool.{false≢true}
 use Rattle.std.proofs.lemmas.Bool.Decides.{Decides-and, Decides-eqb}

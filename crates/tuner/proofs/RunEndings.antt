@@ -1,7 +1,6 @@
 -- How a call ends that runs a task, by how its board ends.
 use Rattle.std.proofs.Common.{ℕ, ◌≡◌, ◌≤◌, true, inl, inr, List, Option, refl, sym, ap, subst, ◌∙◌, arith}
-use Rattle.std.specs.Prelude.{IsSome, IsSomeAnd}
-use Rattle.objective.specs.Bounds.{Bounds}
+use Rattle.std.specs.Prelude.{IsSome}
 use Rattle.objective.specs.Costs.{Table}
 use Rattle.objective.specs.declared.Outcome.{Outcome}
 use Rattle.wrapper_lines.specs.declared.runs.Key.{Key}
@@ -13,7 +12,7 @@ use Rattle.ils_face.specs.declared.asks.Ask.{Ask}
 use Rattle.ils_face.specs.declared.asks.Ask.TheVariants.{Full, Versus, End}
 use Rattle.ils_face.specs.Rules.{Rules}
 use Rattle.ils_face.specs.Steady.{IsAsk, Grows}
-use Rattle.ils_face.specs.Traces.{IsFinal, question_of}
+use Rattle.ils_face.specs.Traces.{IsFinal}
 use Rattle.ils_face.specs.Views.{View}
 use Rattle.run_cache.specs.declared.cell.Cell.{Cell}
 use Rattle.capping.specs.Decisions.{place_count}

@@ -1,11 +1,9 @@
 -- The event by which a board gave a ticket.
 use Rattle.std.proofs.Common.{◌≡◌, Bool, true, false, List, All, refl, sym, ap, subst, ◌∙◌}
-use Rattle.std.specs.Bool.{Decides}
 use Rattle.std.specs.Prelude.{◌↔◌, IsTrue}
 use Rattle.std.proofs.lemmas.Bool.{false≢true}
 use Rattle.std.proofs.lemmas.Bool.Decides.{Decides-and, Decides-eqb}
 use Rattle.std.proofs.lemmas.List.Elements.{All-contains}
-use Rattle.wrapper_lines.specs.declared.runs.Key.{Key}
 use Rattle.board_steps.specs.declared.events.Event.{Event}
 use Rattle.board_steps.specs.declared.events.Event.TheVariants.{Take}
 use Rattle.board_steps.specs.declared.tickets.Kind.TheVariants.{Asked, Ahead}
@@ -14,7 +12,7 @@ use Rattle.board_steps.specs.Ledgers.{take_event}
 use Rattle.board_steps.specs.Numbering.{IsRunnable, IsRunnableTake}
 use Rattle.board_steps.specs.Problem.{Problem}
 use Rattle.board_steps.specs.ProblemRuns.{key_of}
-use Rattle.board_steps.proofs.SameCells.{decides_also, same_cell-Decides}
+use Rattle.board_steps.proofs.SameCells.{same_cell-Decides}
 use Rattle.board_steps.proofs.SameTickets.{same_kind-Decides}
 use Rattle.tuner.specs.KeptFaults.{IsTakeOf, IsTakenIn, takes}
 
