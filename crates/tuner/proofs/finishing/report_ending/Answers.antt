@@ -4,6 +4,7 @@ use Rattle.ils_face.specs.declared.asks.Reply.{Reply}
 use Rattle.ils_face.specs.Rules.{Rules}
 use Rattle.ils_face.specs.Steady.{IsAsk}
 use Rattle.run_cache.specs.declared.cell.Cell.{Cell}
+use Rattle.board_steps.specs.ProblemRuns.{table_of}
 use Rattle.pool_core.specs.Endings.{AbortsFirst}
 use Rattle.tuner.specs.SearchEnds.{IsSearched}
 use Rattle.tuner.proofs.BoardEndings.{by_board, sound_abort, finished_call, aborted_call, short_call}
