@@ -61,7 +61,10 @@ fn work_all<R: Threads + Wait + Sync, P: Search + Send, S: Spawner + Send>(
         rt,
         seats,
         threads,
-        &|_, seat| work_anew(rt, &board, &bell, program, seat),
+        &|_: usize, seat: &mut Seat<S>|
+            requires { IsTrue seat.old.told.idle }
+            ensures { HasWorkedOn seat.old seat.new }
+        { work_anew(rt, &board, &bell, program, seat) },
     );
     board.into_inner()
 }
