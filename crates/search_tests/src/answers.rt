@@ -1,6 +1,7 @@
 //! What comparisons and searches are answered by hand with.
-ghost use Rattle.std.specs.Prelude.{◌≡◌, IsTrue};
+ghost use Rattle.std.specs.Prelude.{◌≡◌, ◌≤◌, IsTrue};
 ghost use Rattle.ils_face.specs.Replies.{Fits};
+ghost use Rattle.objective.specs.Limits.{max_runs};
 
 use ils_face::{Ask, Reply, Rules};
 use objective::{Factor, Limits, Micros};
@@ -9,13 +10,16 @@ use param_space::Space;
 use std::alloc::Global;
 use test_support::space_of;
 
-/// The rules of one comparison on two pairs over this space.
-fn rules_over(space: Space) -> Rules {
+/// The rules of one comparison on at most so many pairs over this space.
+fn rules_over(space: Space, runs: u32) -> Rules
+    requires one { 1 ≤ runs }
+    requires most { runs ≤ max_runs }
+{
     let _ = space.params(); // its rules hold
     Rules {
         space,
         seed: 1,
-        max_runs: 2,
+        max_runs: runs,
         budget: 1,
         initial: 0,
         strength: 1,
@@ -31,7 +35,12 @@ fn rules_over(space: Space) -> Rules {
 
 /// The rules of one comparison of the values a and b on two pairs.
 pub(crate) fn rules_of_two(alloc: Global) -> Result<Rules, ParamFault> {
-    Ok(rules_over(space_of(alloc, "x {a, b} [a]")?))
+    Ok(rules_over(space_of(alloc, "x {a, b} [a]")?, 2))
+}
+
+/// The rules of one comparison of the values a and b on at most ten pairs.
+pub(crate) fn rules_of_ten(alloc: Global) -> Result<Rules, ParamFault> {
+    Ok(rules_over(space_of(alloc, "x {a, b} [a]")?, 10))
 }
 
 /// What has to be asked, and the reply to it.
@@ -39,6 +48,8 @@ pub(crate) fn rules_of_two(alloc: Global) -> Result<Rules, ParamFault> {
 pub(crate) struct Answer {
     /// The value number of x.
     pub value: u16,
+    /// The pairs.
+    pub runs: u32,
     /// The bound, where there is one.
     pub bound: Option<u64>,
     pub reply: Reply,
@@ -55,14 +66,18 @@ pub(crate) fn fits(ask: &Ask, reply: Reply) -> bool
     }
 }
 
-/// Whether this is asked, on two pairs.
+/// Whether this is asked.
 pub(crate) fn is_asked(ask: &Ask, answer: &Answer) -> bool {
     match ask {
         Ask::Full { config, n } => {
-            answer.bound.is_none() && *n == 2 && config.values() == [answer.value].as_slice()
+            answer.bound.is_none()
+                && *n == answer.runs
+                && config.values() == [answer.value].as_slice()
         }
         Ask::Versus { config, n, bound } => {
-            answer.bound == Some(bound.0) && *n == 2 && config.values() == [answer.value].as_slice()
+            answer.bound == Some(bound.0)
+                && *n == answer.runs
+                && config.values() == [answer.value].as_slice()
         }
         Ask::End => false,
     }

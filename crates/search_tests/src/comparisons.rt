@@ -21,7 +21,7 @@ fn decides<C: Comparer>(comparer: &C, answer: &Answer, decision: Option<bool>) -
 }
 
 /// Gives the answer; whether it is to what was asked.
-fn answered<C: Comparer>(comparer: &mut C, answer: &Answer) -> Result<bool, Memory> {
+pub(crate) fn answered<C: Comparer>(comparer: &mut C, answer: &Answer) -> Result<bool, Memory> {
     if comparer.stage() != Stage::Asking {
         return Ok(false);
     }
@@ -35,7 +35,7 @@ fn answered<C: Comparer>(comparer: &mut C, answer: &Answer) -> Result<bool, Memo
 }
 
 /// The configuration with this value of x.
-fn config(alloc: Global, value: u16) -> Result<Config, Memory> {
+pub(crate) fn config(alloc: Global, value: u16) -> Result<Config, Memory> {
     Ok(Config::new([value].to_vec(alloc)?))
 }
 
@@ -61,12 +61,14 @@ fn has_found<C: Comparer>(comparer: &C, sum: Sum) -> bool {
 fn is_won<C: Comparer>(comparer: &mut C) -> Result<bool, Memory> {
     let second = Answer {
         value: 1,
+        runs: 2,
         bound: None,
         reply: Reply::Exact(Sum(8)),
     };
     let asked = answered(comparer, &second)?;
     let first = Answer {
         value: 0,
+        runs: 2,
         bound: Some(8),
         reply: Reply::Exceeds,
     };
@@ -77,6 +79,7 @@ fn is_won<C: Comparer>(comparer: &mut C) -> Result<bool, Memory> {
 fn compares<C: Comparer>(alloc: Global, comparer: &mut C) -> Result<bool, Memory> {
     let opening = Answer {
         value: 0,
+        runs: 2,
         bound: None,
         reply: Reply::Exact(Sum(9)),
     };

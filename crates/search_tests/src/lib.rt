@@ -9,6 +9,8 @@ mod checks;
 #[cfg(test)]
 mod comparisons;
 #[cfg(test)]
+mod counted;
+#[cfg(test)]
 mod draws;
 #[cfg(test)]
 mod exchanges;

@@ -46,16 +46,19 @@ fn finds<S: Search>(search: &S) -> Result<bool, Memory> {
         &[
             Answer {
                 value: 0,
+                runs: 2,
                 bound: None,
                 reply: Reply::Exact(Sum(7)),
             },
             Answer {
                 value: 0,
+                runs: 2,
                 bound: None,
                 reply: Reply::Exact(Sum(7)),
             },
             Answer {
                 value: 1,
+                runs: 2,
                 bound: Some(7),
                 reply: Reply::Exact(Sum(6)),
             },
