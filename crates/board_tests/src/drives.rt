@@ -120,20 +120,48 @@ fn comes_to<R: Wait, P: Search>(
     Ok(text.as_str() == wanted)
 }
 
+/// The same of a seat that is owned.
+fn comes_to_by<R: Wait, P: Search>(
+    rt: &R,
+    alloc: Global,
+    board: &mut GridBoard<P>,
+    mut seat: Seat<TableSeat<Grid>>,
+    wanted: &str,
+) -> Result<bool, Memory>
+    requires idle { IsTrue seat.told.idle }
+    requires free { board.old.live ≡ [] }
+    requires going { board.old.stopped ≡ false }
+{
+    comes_to(rt, alloc, board, &mut seat, wanted)
+}
+
 /// Whether a drive of a board by a seat whose start and look with these numbers fail comes to this.
 fn goes_so<R: Wait, P: Search>(
     rt: &R,
     alloc: Global,
     board: &mut GridBoard<P>,
-    bad_start: u32,
-    bad_look: u32,
+    bad: (u32, u32),
     wanted: &str,
 ) -> Result<bool, Memory>
     requires free { board.old.live ≡ [] }
     requires going { board.old.stopped ≡ false }
 {
-    let mut seat = seat(alloc, bad_start, bad_look)?;
-    comes_to(rt, alloc, board, &mut seat, wanted)
+    let seat = seat(alloc, bad.0, bad.1)?;
+    comes_to_by(rt, alloc, board, seat, wanted)
+}
+
+/// The same of a board that is owned.
+fn goes_so_on<R: Wait, P: Search>(
+    rt: &R,
+    alloc: Global,
+    mut board: GridBoard<P>,
+    bad: (u32, u32),
+    wanted: &str,
+) -> Result<bool, Memory>
+    requires free { board.live ≡ [] }
+    requires going { board.stopped ≡ false }
+{
+    goes_so(rt, alloc, &mut board, bad, wanted)
 }
 
 /// Whether a drive of this course comes to this.
@@ -144,8 +172,8 @@ fn is_so<R: Wait, P: Search>(
     wanted: &str,
 ) -> Result<bool, Memory> {
     let (setup, bad_start, bad_look) = course;
-    let mut board = opened::<P>(alloc, &setup)?;
-    goes_so(rt, alloc, &mut board, bad_start, bad_look, wanted)
+    let board = opened::<P>(alloc, &setup)?;
+    goes_so_on(rt, alloc, board, (bad_start, bad_look), wanted)
 }
 
 /// The setup of two values with these letters, for so many comparisons.
