@@ -3,6 +3,7 @@ use crate::checks::check;
 use crate::setups::{Setup, open};
 use crate::texts::{push_entries, push_journal, push_ticket, push_wishes};
 use basic_ils::Basic;
+use focused_ils::Focused;
 use ils_face::Search;
 use ils_frame::Ils;
 use objective::{Memory, seen};
@@ -353,8 +354,56 @@ fn boards_by_hand(rt: HostRuntime) {
              Record 1 Solved(Micros(3000000))|Record 2 Solved(Micros(4000000))|Advance|Advance|\
              Asked 3 b1@7.000000 2|Stop|Killed 3|Resume|Asked 4 b1@7.000000 2|",
         ),
+        (
+            "tickets that end while the board is stopped, and events of ended tickets",
+            "34uu8x",
+            1,
+            "advance Waits|take Asked 1 a1@10.000000 0|take Ahead 2 a2@10.000000 0|stop -|stop -|\
+             live 2|standing-1 Marked|standing-2 Marked|record-1 Marked|lost-1 true|killed-2 true|\
+             live 0|take Stopped|resume Ok|record-1 Stranger|lost-1 false|killed-2 false|\
+             standing-2 Stranger|take Asked 3 a1@10.000000 0|take Ahead 4 a2@10.000000 0|\
+             record-3 Fresh|record-3 Stranger|lost-3 false|killed-3 false|killed-4 false|live 1|",
+            "Advance|Asked 1 a1@10.000000 0|Ahead 2 a2@10.000000 0|Stop|Lost 1|Killed 2|Resume|\
+             Asked 3 a1@10.000000 0|Ahead 4 a2@10.000000 0|Record 3 Solved(Micros(3000000))|",
+        ),
+        (
+            "a run ahead that is lost while the board is stopped, and a ticket held at its resume",
+            "34uu8x",
+            1,
+            "advance Waits|take Asked 1 a1@10.000000 0|take Ahead 2 a2@10.000000 0|stop -|\
+             lost-2 true|live 1|resume Ok|live 0|standing-1 Stranger|record-1 Stranger|\
+             lost-1 false|killed-1 false|known-1 Nothing|take Asked 3 a1@10.000000 0|take Idle|\
+             record-3 Fresh|advance Waits|take Asked 4 a2@10.000000 0|",
+            "Advance|Asked 1 a1@10.000000 0|Ahead 2 a2@10.000000 0|Stop|Lost 2|Resume|\
+             Asked 3 a1@10.000000 0|Record 3 Solved(Micros(3000000))|Advance|\
+             Asked 4 a2@10.000000 0|",
+        ),
     ] {
         let right = is_so::<Ils<Basic>>(rt.alloc(), (letters, *budget, lines, keeps));
         check(&rt, matches!(right, Ok(true)), name);
     }
+}
+
+#[test]
+fn boards_of_counted_runs_by_hand(rt: HostRuntime) {
+    // The second run of a is wished for as if b lost. But b wins, and its own second run is
+    // needed, beside which nothing is wished for.
+    let lines = "advance Waits|wishes-5 |take Asked 1 a1@10.000000 0|take Idle|record-1 Fresh|\
+        take Decided|advance Moved|advance Waits|wishes-5 a2@10.000000,|\
+        take Asked 2 b1@3.000000 1|take Ahead 3 a2@10.000000 1|mark 0|record-2 Fresh|\
+        advance Moved|advance Waits|wishes-5 |standing-3 Live|mark 1|standing-3 Marked|mark 0|\
+        take Asked 4 b2@10.000000 2|record-3 Marked|known-3 Nothing|killed-3 true|record-4 Fresh|\
+        advance Moved|advance Moved|advance Waits|take Asked 5 a2@1.000000 4|record-5 Fresh|\
+        advance Moved|advance Ended|ending Finished|";
+    let keeps = "0 0 0.000000 a|1 1 2.000000 b|Asked 1 a1@10.000000 0|\
+        Record 1 Solved(Micros(3000000))|Advance|Asked 2 b1@3.000000 1|Ahead 3 a2@10.000000 1|\
+        Record 2 Solved(Micros(2000000))|Advance|Mark 3|Asked 4 b2@10.000000 2|Killed 3|\
+        Record 4 Solved(Micros(2000000))|Advance|Advance|Asked 5 a2@1.000000 4|\
+        Record 5 Timeout|Advance|";
+    let right = is_so::<Ils<Focused>>(rt.alloc(), ("33uu22uu", 2, lines, keeps));
+    check(
+        &rt,
+        matches!(right, Ok(true)),
+        "neither needed nor wished for",
+    );
 }

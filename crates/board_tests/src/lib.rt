@@ -4,6 +4,8 @@
 #[cfg(test)]
 mod checks;
 #[cfg(test)]
+mod conflicts;
+#[cfg(test)]
 mod drives;
 #[cfg(test)]
 mod grid;

@@ -6,6 +6,7 @@ use crate::hands::recorded;
 use crate::setups::{Setup, open, open_copy, problem};
 use crate::texts::entries_text;
 use basic_ils::Basic;
+use focused_ils::Focused;
 use ils_face::Search;
 use ils_frame::Ils;
 use objective::Memory;
@@ -409,6 +410,92 @@ fn tables_in_any_order(rt: HostRuntime) {
         ("983l76ul54xu321c", "983u76uu54uu321c", 2),
     ] {
         let right = is_as_alone::<Ils<Basic>>(rt.alloc(), letters, quiet, *runs, &mut bits);
+        check(&rt, matches!(right, Ok(true)), letters);
+    }
+    assert!(rt; bits == 511, "{bits}");
+}
+
+/// Two values, and four.
+const TWO: &str = "x {a, b} [a]";
+
+const FOUR: &str = "x {a, b, c, d} [a]";
+
+#[test]
+fn counted_runs_in_any_order(rt: HostRuntime) {
+    // The incumbents were worked out apart from the boards: by the definitions of the draws, of
+    // the search and of FocusedILS, one evaluation after another, over costs that are all known.
+    // So b wins the first row's comparison 1 by its first run, of 2 seconds against 3.
+    let mut bits = 0;
+    for (letters, lines, runs, budget, end, entries) in &[
+        (
+            "33332222",
+            TWO,
+            4,
+            1,
+            End::Finished,
+            "0 0 0.000000 a|1 1 2.000000 b|",
+        ),
+        ("11112222", TWO, 4, 3, End::Finished, "0 0 0.000000 a|"),
+        (
+            "3uuu2999",
+            TWO,
+            4,
+            3,
+            End::Finished,
+            "0 0 0.000000 a|1 1 2.000000 b|",
+        ),
+        ("00000000", TWO, 4, 3, End::Finished, "0 0 0.000000 a|"),
+        ("7777l222", TWO, 4, 1, End::Finished, "0 0 0.000000 a|"),
+        ("9999l222", TWO, 4, 1, End::Aborted, "0 0 0.000000 a|"),
+        ("x3332222", TWO, 4, 1, End::Aborted, "0 0 0.000000 a|"),
+        (
+            "3161412233332422",
+            FOUR,
+            4,
+            12,
+            End::Finished,
+            "0 0 0.000000 a|1 3 9.000000 c|2 4 11.000000 a|6 4 10.000000 d|7 4 9.000000 b|",
+        ),
+        (
+            "9999888877776666",
+            FOUR,
+            4,
+            9,
+            End::Finished,
+            "0 0 0.000000 a|1 1 7.000000 c|4 3 18.000000 d|",
+        ),
+        (
+            "8u5c7u3c2u9u1ccc",
+            FOUR,
+            3,
+            9,
+            End::Finished,
+            "0 0 0.000000 a|1 1 2.000000 c|8 3 110.000000 b|",
+        ),
+        (
+            "uuuuuuu9uu99u999",
+            FOUR,
+            4,
+            9,
+            End::Finished,
+            "0 0 0.000000 a|1 3 209.000000 c|6 4 127.000000 d|",
+        ),
+        (
+            "5432425133339111",
+            FOUR,
+            4,
+            9,
+            End::Finished,
+            "0 0 0.000000 a|1 1 3.000000 c|",
+        ),
+    ] {
+        let setup = Setup {
+            lines,
+            letters,
+            runs: *runs,
+            budget: *budget,
+        };
+        let right = ends_so::<Ils<Focused>>(rt.alloc(), &setup, (*end, entries), &mut bits);
         check(&rt, matches!(right, Ok(true)), letters);
     }
     assert!(rt; bits == 511, "{bits}");
