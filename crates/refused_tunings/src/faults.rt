@@ -177,19 +177,19 @@ fn writes_that_fail_end_the_call(rt: HostRuntime) {
     }
 }
 
-/// Whether a tuning by these words over these instances ends by an abort of its last child, and
-/// prints this.
+/// Whether a tuning by these words over these instances ends by an abort of its last child,
+/// starts these children, and prints this.
 fn is_aborted<R: Threads + Wait + Sync>(
     rt: &R,
     alloc: Global,
     words: &str,
     instances: &str,
-    started: usize,
+    cells: &str,
     printed: &str,
 ) -> Result<bool, Memory> {
     let ran = ran(rt, alloc, words, &[("i", instances.as_bytes())], &NONE)?;
     let right = matches!(&ran.status, Status::Aborted { .. }) && ran.status.code() == 6;
-    Ok(right && ran.started == started && ran.printed.as_slice() == printed.as_bytes())
+    Ok(right && ran.cells.as_str() == cells && ran.printed.as_slice() == printed.as_bytes())
 }
 
 #[test]
@@ -197,14 +197,29 @@ fn an_abort_ends_the_call(rt: HostRuntime) {
     let one = "-scenariofile|s|-maxComparisons|1";
     // In the opening evaluation, and in the first comparison, at either place of b; the last
     // one comes after 8 of the 9 seconds that are left.
-    for (words, instances, started, printed) in &[
-        (WORDS, "one x429\n", 1, "aborted 1 x=a\n"),
-        (one, "one 34x1\n", 3, "0 2 7.000000 x=a\naborted 1 x=b\n"),
-        (one, "one 341x\n", 4, "0 2 7.000000 x=a\naborted 2 x=b\n"),
-        (one, "one 54l1\n", 3, "0 2 9.000000 x=a\naborted 1 x=b\n"),
+    for (words, instances, cells, printed) in &[
+        (WORDS, "one x429\n", "a1@10.000000 ", "aborted 1 x=a\n"),
+        (
+            one,
+            "one 34x1\n",
+            "a1@10.000000 a2@10.000000 b1@7.000000 ",
+            "0 2 7.000000 x=a\naborted 1 x=b\n",
+        ),
+        (
+            one,
+            "one 341x\n",
+            "a1@10.000000 a2@10.000000 b1@7.000000 b2@6.000000 ",
+            "0 2 7.000000 x=a\naborted 2 x=b\n",
+        ),
+        (
+            one,
+            "one 54l1\n",
+            "a1@10.000000 a2@10.000000 b1@9.000000 ",
+            "0 2 9.000000 x=a\naborted 1 x=b\n",
+        ),
     ] {
-        let right = is_aborted(&rt, rt.alloc(), words, instances, *started, printed);
-        check(&rt, matches!(right, Ok(true)), printed);
+        let right = is_aborted(&rt, rt.alloc(), words, instances, cells, printed);
+        check(&rt, matches!(right, Ok(true)), instances);
     }
 }
 

@@ -5,12 +5,32 @@ use std::alloc::Global;
 use std::sync::Wait;
 use std::thread::Threads;
 use tuner::Status;
-use tuning_harness::{NONE, ran};
+use tuning_harness::{NONE, Tuning, ran};
 
 /// Two values of one parameter, and one.
 const TWO_VALUES: &str = "x {a, b} [a]\n";
 
 const ONE_VALUE: &str = "x {a} [a]\n";
+
+/// A tuning by these words, of these parameters over these instances.
+fn tuned<R: Threads + Wait + Sync>(
+    rt: &R,
+    alloc: Global,
+    words: &str,
+    params: &str,
+    instances: &str,
+) -> Result<Tuning, Memory> {
+    let words = format!(in alloc;
+        "-scenariofile|s|-approach|focused|-N|10|-maxComparisons|{words}"
+    )?;
+    let files = [("p", params.as_bytes()), ("i", instances.as_bytes())];
+    ran(rt, alloc, words.as_str(), &files, &NONE)
+}
+
+/// Whether a tuning is Ok and printed this.
+fn has_printed(ran: &Tuning, printed: &str) -> bool {
+    ran.status == Status::Ok && ran.printed.as_slice() == printed.as_bytes()
+}
 
 /// Whether a tuning by these words, of these parameters over these instances, prints this and
 /// starts these children.
@@ -23,13 +43,8 @@ fn is_tuned<R: Threads + Wait + Sync>(
     printed: &str,
     cells: &str,
 ) -> Result<bool, Memory> {
-    let words = format!(in alloc;
-        "-scenariofile|s|-approach|focused|-N|10|-maxComparisons|{words}"
-    )?;
-    let files = [("p", params.as_bytes()), ("i", instances.as_bytes())];
-    let ran = ran(rt, alloc, words.as_str(), &files, &NONE)?;
-    let right = ran.status == Status::Ok && ran.printed.as_slice() == printed.as_bytes();
-    Ok(right && ran.cells.as_str() == cells)
+    let ran = tuned(rt, alloc, words, params, instances)?;
+    Ok(has_printed(&ran, printed) && ran.cells.as_str() == cells)
 }
 
 #[test]
@@ -67,16 +82,24 @@ fn configurations_get_as_many_runs_as_they_are_worth(rt: HostRuntime) {
             "0 0 0.000000 x=a\nend 1 3 3.000000 x=a\n",
             "a1@10.000000 a2@10.000000 a3@10.000000 ",
         ),
-        (
-            "a deterministic solver on two instances",
-            "20|-deterministic|1",
-            ONE_VALUE,
-            "one 1111\ntwo 2222\n",
-            "0 0 0.000000 x=a\nend 20 2 3.000000 x=a\n",
-            "a0@10.000000 a0@10.000000 ",
-        ),
     ] {
         let right = is_tuned(&rt, rt.alloc(), words, params, instances, printed, cells);
         check(&rt, matches!(right, Ok(true)), name);
     }
+}
+
+/// Whether twenty comparisons of a deterministic solver start it once on each of two instances,
+/// both times with the seed 0.
+fn is_started_once_each<R: Threads + Wait + Sync>(rt: &R, alloc: Global) -> Result<bool, Memory> {
+    let words = "20|-deterministic|1";
+    let ran = tuned(rt, alloc, words, ONE_VALUE, "one 1111\ntwo 2222\n")?;
+    let right = has_printed(&ran, "0 0 0.000000 x=a\nend 20 2 3.000000 x=a\n");
+    let starts = "w one 1111 10.000000 2147483647 0 -x a\nw two 2222 10.000000 2147483647 0 -x a\n";
+    Ok(right && ran.starts.as_str() == starts)
+}
+
+#[test]
+fn a_deterministic_solver_is_started_once_on_each_instance(rt: HostRuntime) {
+    let right = is_started_once_each(&rt, rt.alloc());
+    check(&rt, matches!(right, Ok(true)), "two instances");
 }
