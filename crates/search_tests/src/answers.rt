@@ -1,7 +1,7 @@
 //! What comparisons and searches are answered by hand with.
 ghost use Rattle.std.specs.Prelude.{◌≡◌, ◌≤◌, IsTrue};
 ghost use Rattle.ils_face.specs.Replies.{Fits};
-ghost use Rattle.objective.specs.Limits;
+ghost use Rattle.objective.specs.Limits.{max_runs};
 
 use ils_face::{Ask, Reply, Rules};
 use objective::{Factor, Limits, Micros};
@@ -11,15 +11,15 @@ use std::alloc::Global;
 use test_support::space_of;
 
 /// The rules of one comparison on at most so many pairs over this space.
-fn rules_over(space: Space, max_runs: u32) -> Rules
-    requires one { 1 ≤ max_runs }
-    requires most { max_runs ≤ Limits.max_runs }
+fn rules_over(space: Space, runs: u32) -> Rules
+    requires one { 1 ≤ runs }
+    requires most { runs ≤ max_runs }
 {
     let _ = space.params(); // its rules hold
     Rules {
         space,
         seed: 1,
-        max_runs,
+        max_runs: runs,
         budget: 1,
         initial: 0,
         strength: 1,
