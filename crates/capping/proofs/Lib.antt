@@ -5,6 +5,6 @@ pub mod NeededRuns
 pub mod WalkAborts
 mod LearntAnswers
 pub mod Promises
-pub mod WalkSteps
+mod FrontVerdicts
 pub mod OtherCells
 pub mod AbortVerdicts

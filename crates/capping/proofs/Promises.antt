@@ -2,10 +2,8 @@
 use Rattle.std.specs.Prelude.{ℕ, zero, suc, ◌*◌, ◌≤◌, ◌≡◌, Option, Some, None, IsSomeAnd, IfSome, refl}
 use Rattle.std.proofs.Common.{sym, subst, arith, inl, inr}
 use Rattle.objective.specs.Bounds.{Bounds, AreInRange}
-use Rattle.objective.specs.Costs.{Table, times}
+use Rattle.objective.specs.Costs.{Table}
 use Rattle.objective.specs.Limits.{max_cutoff}
-use Rattle.objective.specs.declared.Factor.{Factor}
-use Rattle.objective.specs.declared.Factor.TheVariants.{One, Ten, Thousand}
 use Rattle.objective.specs.declared.Answer.{Answer}
 use Rattle.objective.specs.declared.Sum.{Sum}
 use Rattle.uncapped.specs.Procedure.{Settings, Question}
@@ -19,6 +17,7 @@ use Rattle.run_cache.specs.declared.known.Known.{Known}
 use Rattle.run_cache.specs.declared.known.Known.TheVariants.{Nothing, Over, Exact, Abort}
 use Rattle.run_cache.specs.Knowledge.{Agrees, IsInRange}
 use Rattle.run_cache.specs.Caches.{Knowledge, Cached, AgreesWith, known_in}
+use Rattle.run_cache.proofs.Ranges.{low_in_range}
 use Rattle.capping.specs.declared.verdicts.Verdict.{Verdict}
 use Rattle.capping.specs.declared.verdicts.Verdict.TheVariants as verdict
 use Rattle.capping.specs.Verdicts.{verdict_from, verdict_of}
@@ -33,24 +32,15 @@ use Rattle.capping.proofs.LearntAnswers.{needs_later, after_run-here, after_run-
 
 -- ---- the sum that is replied
 
-times_most : (f : Factor) (k most : ℕ) → k ≤ most → k * times f ≤ 1000 * most
-times_most One k most h = omega (arith, h)
-times_most Ten k most h = omega (arith, h)
-times_most Thousand k most h = omega (arith, h)
-
 -- a known cost is at most a thousand of the greatest cutoffs
-pub cost_most : (limits : Bounds) (k : Known) (x : ℕ) → AreInRange limits.cutoff limits.floor → IsInRange limits k → exact_cost k ≡ Some x
+cost_most : (limits : Bounds) (k : Known) (x : ℕ) → AreInRange limits.cutoff limits.floor → IsInRange limits k → exact_cost k ≡ Some x
     → x ≤ 1000 * max_cutoff
 cost_most limits Nothing x r h e = absurd (cc)
 cost_most limits (Over time) x r h e = absurd (cc)
-cost_most limits (Exact cost) x r (inl low) e =
+cost_most limits (Exact cost) x r h e =
     let same : cost.0 ≡ x = cc in
-    let most = r.cutoff_in_range in
-    omega (arith, same, low, most)
-cost_most limits (Exact cost) x r (inr unsolved) e =
-    let same : cost.0 ≡ x = cc in
-    let most = times_most limits.factor limits.cutoff max_cutoff r.cutoff_in_range in
-    omega (arith, same, unsolved, most)
+    let most = low_in_range limits (Exact cost) r h in
+    omega (arith, same, most)
 cost_most limits Abort x r h e = absurd (cc)
 
 -- so is their sum, for each place

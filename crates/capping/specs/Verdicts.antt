@@ -1,13 +1,15 @@
--- What the runs known so far make of an ask: a walk over its places, one after another.
-use Rattle.std.specs.Prelude.{ℕ, zero, suc, ◌+◌, ◌-◌, Bool, false, Option, Some, None, nat_le, nat_lt, if◌then◌else◌}
+-- What the runs known so far make of an ask: a walk over its places, one after another, and what is read off of a row in its place.
+use Rattle.std.specs.Prelude.{ℕ, zero, suc, ◌+◌, ◌-◌, Bool, false, List, length, Option, Some, None, nat_le, nat_lt, if◌then◌else◌}
 use Rattle.objective.specs.Bounds.{Bounds}
 use Rattle.objective.specs.Costs.{cap}
+use Rattle.objective.specs.declared.Sum.{Sum}
 use Rattle.uncapped.specs.Procedure.{Settings}
 use Rattle.ils_face.specs.declared.asks.Ask.{Ask}
 use Rattle.ils_face.specs.declared.asks.Ask.TheVariants.{Full, Versus, End}
 use Rattle.ils_face.specs.declared.asks.Reply.TheVariants as reply
 use Rattle.run_cache.specs.declared.known.Known.{Known}
 use Rattle.run_cache.specs.declared.known.Known.TheVariants.{Nothing, Over, Exact, Abort}
+use Rattle.run_cache.specs.Fronts.{spent_over}
 use Rattle.capping.specs.declared.verdicts.Verdict.{Verdict}
 use Rattle.capping.specs.declared.verdicts.Verdict.TheVariants.{Reply, Need, Aborted, Ended}
 
@@ -45,6 +47,21 @@ verdict_from limits known bound zero place spent =
 verdict_from limits known bound (suc left) place spent =
     if is_past bound spent then Reply reply.Exceeds
     else verdict_at limits bound place spent (verdict_from limits known bound left (suc place)) (known place)
+
+-- the verdict on places whose costs are all known and sum up to so much
+abbrev pub verdict_on_sum : Option ℕ → ℕ → Verdict
+verdict_on_sum bound spent = if is_past bound spent then Reply reply.Exceeds else Reply (reply.Exact (record { 0 = spent }))
+
+-- the verdict at the first place whose cost isn't known, after those before it cost so much
+abbrev pub verdict_next : Bounds → Option ℕ → ℕ → ℕ → Known → Verdict
+verdict_next limits bound place spent known =
+    if is_past bound spent then Reply reply.Exceeds else verdict_at limits bound place spent (λ sum. need limits bound place spent) known
+
+-- the verdict on n places, by the sums over the leading exact places of a row and what it knows at the next one
+abbrev pub verdict_at_front : Bounds → Option ℕ → ℕ → List Sum → Known → Verdict
+verdict_at_front limits bound n sums known =
+    if nat_le n (length sums) then verdict_on_sum bound (spent_over sums n)
+    else verdict_next limits bound (suc (length sums)) (spent_over sums (length sums)) known
 
 -- the verdict on an ask, by what is known of each configuration at each place
 abbrev pub verdict_of : Bounds → (Settings → ℕ → Known) → Ask → Verdict

@@ -5,16 +5,16 @@ ghost use Rattle.objective.specs.Limits.{max_cutoff, max_runs};
 ghost use Rattle.uncapped.specs.Totals.{total_cost, quiet};
 ghost use Rattle.ils_face.specs.Replies.{Fits};
 ghost use Rattle.ils_face.specs.Traces.{question_of, IsReplyBy};
-ghost use Rattle.run_cache.specs.Caches.{known_at, known_in, AgreesWith, IsRow};
+ghost use Rattle.run_cache.specs.Caches.{known_in, AgreesWith};
 ghost use Rattle.capping.specs.Verdicts as verdicts;
 ghost use Rattle.capping.specs.Verdicts.{verdict_from, verdict_of};
 ghost use Rattle.capping.specs.Decisions.{place_count, bound_of, question, IfReply, IfNeedOf, IfAbortedOf, OnEnded, IsAtMost, IsNeeded, IsDueAt, GoesOn, IsKnownAbort, IsFirstAbort, AreRanged};
 
 use crate::verdicts::Verdict;
 use ils_face::{Ask, Reply};
-use objective::{Limits, Micros, Sum, add, cap};
+use objective::{Limits, Micros, Sum, cap};
 use param_space::Config;
-use run_cache::{Cache, Known, known_next};
+use run_cache::{Cache, Front, Known, spent_over};
 
 /// Whether so much is more than the bound. A tie isn't.
 fn is_past(bound: Option<Sum>, spent: Sum) -> bool
@@ -47,27 +47,10 @@ fn need(limits: &Limits, bound: Option<Sum>, place: u32, spent: Sum) -> Verdict
     Verdict::Need { place, cutoff }
 }
 
-/// The verdict on the places 1 to n, up to a bound, by what is known of a configuration.
-fn verdict_by(limits: &Limits, row: &[Known], n: u32, bound: Option<Sum>) -> Verdict
-    requires ranged { IsRow limits.now row.now }
-    requires within { n ≤ max_runs }
-    ensures { result ≡ verdict_from limits.now (known_at row.now) (bound_of bound) n 1 0 }
+/// The verdict on places whose costs are all known and sum up to so much.
+fn verdict_on_sum(bound: Option<Sum>, spent: Sum) -> Verdict
+    ensures { result ≡ verdicts.verdict_on_sum (bound_of bound) spent.0 }
 {
-    let _ = &limits.cutoff; // its type keeps it in range
-    let mut spent = Sum(0);
-    for done in 0..n {
-        if is_past(bound, spent) {
-            return Verdict::Reply(Reply::Exceeds);
-        }
-        match known_next(row, done) {
-            Known::Exact(cost) => spent = add(spent, cost),
-            Known::Over(time) if leads_past(bound, spent, time) => {
-                return Verdict::Reply(Reply::Exceeds);
-            }
-            Known::Abort => return Verdict::Aborted { place: done + 1 },
-            Known::Over(_) | Known::Nothing => return need(limits, bound, done + 1, spent),
-        }
-    }
     if is_past(bound, spent) {
         Verdict::Reply(Reply::Exceeds)
     } else {
@@ -75,7 +58,40 @@ fn verdict_by(limits: &Limits, row: &[Known], n: u32, bound: Option<Sum>) -> Ver
     }
 }
 
-/// The same by what a cache knows of the configuration.
+/// The verdict at the first place whose cost isn't known, after those before it cost so much.
+fn verdict_next(
+    limits: &Limits,
+    bound: Option<Sum>,
+    place: u32,
+    spent: Sum,
+    known: Known,
+) -> Verdict
+    ensures { result ≡ verdicts.verdict_next limits.now (bound_of bound) place spent.0 known }
+{
+    if is_past(bound, spent) {
+        return Verdict::Reply(Reply::Exceeds);
+    }
+    match known {
+        Known::Over(time) if leads_past(bound, spent, time) => Verdict::Reply(Reply::Exceeds),
+        Known::Abort => Verdict::Aborted { place },
+        Known::Over(_) | Known::Nothing | Known::Exact(_) => need(limits, bound, place, spent),
+    }
+}
+
+/// The verdict on the places 1 to n, up to a bound, by what is read off of a configuration's row.
+fn verdict_by(limits: &Limits, front: &Front<'_>, n: u32, bound: Option<Sum>) -> Verdict
+    ensures { result
+        ≡ verdicts.verdict_at_front limits.now (bound_of bound) n front.now.sums.now front.now.known }
+{
+    let done = front.sums.len();
+    if n as usize <= done {
+        return verdict_on_sum(bound, spent_over(front.sums, n as usize));
+    }
+    let spent = spent_over(front.sums, done);
+    verdict_next(limits, bound, done as u32 + 1, spent, front.known)
+}
+
+/// The verdict on the places 1 to n, up to a bound, by what a cache knows of a configuration.
 fn verdict_in(cache: &Cache, config: &Config, n: u32, bound: Option<Sum>) -> Verdict
     requires { n ≤ max_runs }
     ensures value { result ≡ verdict_from cache.now.limits (known_in cache.now config.now) (bound_of bound) n 1 0 }
@@ -83,7 +99,7 @@ fn verdict_in(cache: &Cache, config: &Config, n: u32, bound: Option<Sum>) -> Ver
 {
     let limits = cache.limits();
     let _ = &limits.cutoff; // its type keeps it in range
-    verdict_by(limits, cache.row(config), n, bound)
+    verdict_by(limits, &cache.at_front(config), n, bound)
 }
 
 /// The verdict on an ask, by what a cache knows.

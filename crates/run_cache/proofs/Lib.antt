@@ -1,4 +1,5 @@
 mod RowLemmas
+pub mod RowSums
 mod LearningSteps
 pub mod Agreement
 pub mod DueRuns

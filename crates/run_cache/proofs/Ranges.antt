@@ -1,10 +1,13 @@
 -- What is known lies in its range, and a run settles its cell at its cutoff.
-use Rattle.std.proofs.Common.{ℕ, zero, suc, ◌≡◌, ◌≤◌, max, Bool, true, false, List, length, refl, sym, subst, inl, inr, arith}
+use Rattle.std.proofs.Common.{ℕ, zero, suc, ◌≡◌, ◌*◌, ◌≤◌, max, Bool, true, false, List, length, refl, sym, subst, inl, inr, arith}
 use Rattle.std.specs.Prelude.{nat_lt, slice_index_or, if◌then◌else◌}
 use Rattle.std.proofs.lemmas.Bool.{cases_lt, le-leb, leb-true}
 use Rattle.std.proofs.lemmas.List.{get_or_past}
-use Rattle.objective.specs.Bounds.{Bounds}
-use Rattle.objective.specs.Costs.{IsWithin, penalty}
+use Rattle.objective.specs.Bounds.{Bounds, AreInRange}
+use Rattle.objective.specs.Costs.{IsWithin, penalty, times}
+use Rattle.objective.specs.Limits.{max_cutoff}
+use Rattle.objective.specs.declared.Factor.{Factor}
+use Rattle.objective.specs.declared.Factor.TheVariants.{One, Ten, Thousand}
 use Rattle.objective.specs.declared.Answer.{Answer}
 use Rattle.objective.specs.declared.Answer.TheVariants as answer
 use Rattle.run_cache.specs.declared.known.Known.{Known}
@@ -12,6 +15,7 @@ use Rattle.run_cache.specs.declared.known.Known.TheVariants.{Nothing, Over, Exac
 use Rattle.run_cache.specs.declared.learning.Evidence.{Evidence}
 use Rattle.run_cache.specs.declared.learning.Evidence.TheVariants as evidence
 use Rattle.run_cache.specs.Caches.{IsCutoff, IsRow, known_at}
+use Rattle.run_cache.specs.Fronts.{IsLow}
 use Rattle.run_cache.specs.Knowledge.{IsCost, IsInRange, IsShortened, is_settled}
 use Rattle.run_cache.specs.Learning.{evidence_of, lesson_from, lesson}
 use Rattle.run_cache.proofs.Agreement.{cutoff_at_most_penalty}
@@ -29,6 +33,21 @@ known_ranged limits row all (suc before) =
 pub cost_at_most_penalty : (limits : Bounds) (x : ℕ) → IsCost limits x → x ≤ penalty limits
 cost_at_most_penalty limits x (inl timely) = omega (arith, cutoff_at_most_penalty limits)
 cost_at_most_penalty limits x (inr same) = omega (arith, same)
+
+times_most : (f : Factor) (k most : ℕ) → k ≤ most → k * times f ≤ 1000 * most
+times_most One k most h = omega (arith, h)
+times_most Ten k most h = omega (arith, h)
+times_most Thousand k most h = omega (arith, h)
+
+-- what is known in range has a low cost, where it has one
+pub low_in_range : (limits : Bounds) (known : Known) → AreInRange limits.cutoff limits.floor → IsInRange limits known → IsLow known
+low_in_range limits Nothing ranged h = tt
+low_in_range limits (Over time) ranged h = tt
+low_in_range limits (Exact cost) ranged (inl low) = let most = ranged.cutoff_in_range in omega (arith, low, most)
+low_in_range limits (Exact cost) ranged (inr unsolved) =
+    let most = times_most limits.factor limits.cutoff max_cutoff ranged.cutoff_in_range in
+    omega (arith, unsolved, most)
+low_in_range limits Abort ranged h = tt
 
 -- evidence under a cutoff: of more time exactly for that one
 abbrev IsUnder : ℕ → Evidence → Type 0

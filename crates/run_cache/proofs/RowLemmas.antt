@@ -1,14 +1,14 @@
 -- Rows of a cache after a place is made or written.
 use Rattle.std.proofs.Common.{ℕ, zero, suc, ◌≡◌, ◌-◌, ◌<◌, ◌≤◌, Bool, true, false, ◌&&◌, cond, List, [], ◌∷◌, ◌++◌, length, replicate, Option, Some, None, refl, sym, ap, subst, ◌∙◌, inl, inr, arith}
-use Rattle.std.specs.Prelude.{◌⊎◌, IsTrue, IsSome, IfSome, Result, Ok, Err, OnOk, OnErr, ◌==◌, if◌then◌else◌, bytes_eq, nat_lt, nat_le, slice_set, slice_index_or, unwrap_or}
+use Rattle.std.specs.Prelude.{◌⊎◌, IsTrue, IsSome, IfSome, Result, Ok, Err, OnOk, OnErr, ◌==◌, if◌then◌else◌, bytes_eq, nat_lt, nat_le, slice_set, slice_index_or, unwrap_or, is_some}
 use Rattle.std.specs.Cmp.Lexicographic.{bytes_decides}
-use Rattle.std.specs.Map.{lookup, set_value, values_of}
+use Rattle.std.specs.Map.{lookup, set_value, keys_of, values_of}
 use Rattle.std.proofs.lemmas.Cmp.{nat_list_eq_equiv}
 use Rattle.std.proofs.lemmas.Bool.{cases_eq, cases_lt, and_parts, and_from, leb-true, le-leb, ltb-true, eq-eqb, ne_eqb}
 use Rattle.std.proofs.lemmas.List.{length-set, get_or-set_same, get_or-set_other, get_or_append_left, get_or-append_right, get_or-replicate, get_or_past, length-append, length-replicate}
-use Rattle.std.proofs.lemmas.Option.{same_Some}
+use Rattle.std.proofs.lemmas.Option.{same_Some, none-some}
 use Rattle.std.proofs.lemmas.List.Elements.{All-set, All-nil, All-cons, All-head, All-tail, All-append, All-replicate}
-use Rattle.std.proofs.lemmas.Map.{lookup-set_value}
+use Rattle.std.proofs.lemmas.Map.{lookup-set_value, keys-set_value}
 use Rattle.std.proofs.lemmas.Map.Views.{All-values-set_value, IfSome-lookup_from_All}
 use Rattle.indexmap.specs.IndexMap.{IndexMap, Updates, insert_entry}
 use Rattle.objective.specs.Bounds.{Bounds}
@@ -16,7 +16,7 @@ use Rattle.run_cache.specs.declared.cell.Cell.{Cell}
 use Rattle.run_cache.specs.declared.known.Known.{Known}
 use Rattle.run_cache.specs.declared.known.Known.TheVariants.{Nothing}
 use Rattle.run_cache.specs.Knowledge.{IsInRange}
-use Rattle.run_cache.specs.Caches.{Cached, Rows, row_of, known_at, known_in, has_place_in, is_at, known_after, grown, rows_with, IsRow, AreRows}
+use Rattle.run_cache.specs.Caches.{Cached, Rows, row_of, known_at, known_in, has_place_in, is_at, known_after, grown, rows_with, IsRow, AreRows, configs_of, configs_with}
 
 -- a row of a cache lies in its range
 pub IsRow-row_of : (limits : Bounds) (rows : Rows) (config : List ℕ) → AreRows limits rows → IsRow limits (row_of rows config)
@@ -260,3 +260,37 @@ pub rows_unless : {E P : Type 0} (r : Result (Unit {0}) E) (old new : Rows) (tes
 rows_unless (Ok u) old new test row w found err same follows = tt
 rows_unless (Err e) old new test row w found err same follows =
     follows (same ∙ ap (set_value test old) err ∙ set_value-same old test row found)
+
+-- ---- which configurations are numbered
+
+-- the keys after a further configuration was put in
+keys-insert : (rows : Rows) (config : List ℕ) (w : List Known) → lookup (bytes_eq config) rows ≡ None
+    → keys_of (insert_entry bytes_eq rows config w) ≡ keys_of rows ++ config ∷ []
+keys-insert [] config w absent = refl
+keys-insert (e ∷ rows) config w absent = by (bytes_eq config e.0) absent (keys-insert rows config w)
+  where
+    by : (b : Bool) → cond b (Some e.1) (lookup (bytes_eq config) rows) ≡ None
+        → (lookup (bytes_eq config) rows ≡ None → keys_of (insert_entry bytes_eq rows config w) ≡ keys_of rows ++ config ∷ [])
+        → keys_of (if b then (e.0, w) ∷ rows else e ∷ insert_entry bytes_eq rows config w) ≡ e.0 ∷ (keys_of rows ++ config ∷ [])
+    by true none rest = absurd (none-some e.1 (sym none))
+    by false none rest = ap (λ l. e.0 ∷ l) (rest none)
+
+-- a configuration that has a row
+pub configs-present : (c d : Cached) (config : List ℕ) → IsSome (lookup (bytes_eq config) c.rows) → configs_of d ≡ configs_of c
+    → configs_of d ≡ configs_with c config
+configs-present c d config there same = by (lookup (bytes_eq config) c.rows) there
+  where
+    by : (o : Option (List Known)) → IsSome o → configs_of d ≡ (if is_some o then configs_of c else configs_of c ++ config ∷ [])
+    by (Some row) h = same
+    by None h = absurd (cc)
+
+-- a configuration that had none
+pub configs-inserted : (c d : Cached) (config key : List ℕ) (w : List Known) → lookup (bytes_eq config) c.rows ≡ None → key ≡ config
+    → d.rows ≡ insert_entry bytes_eq c.rows key w → configs_of d ≡ configs_with c config
+configs-inserted c d config key w absent is same =
+    ap keys_of same ∙ ap (λ k. keys_of (insert_entry bytes_eq c.rows k w)) is ∙ keys-insert c.rows config w absent
+    ∙ sym (ap (λ o. if is_some o then configs_of c else configs_of c ++ config ∷ []) absent)
+
+-- a row that was written again
+pub configs-set : (c d : Cached) (cell : Cell) (known : Known) → d.rows ≡ rows_with c.rows cell known → configs_of d ≡ configs_of c
+configs-set c d cell known same = ap keys_of same ∙ keys-set_value (bytes_eq cell.config) c.rows (slice_set (row_of c.rows cell.config) (cell.place - 1) known)

@@ -1,6 +1,6 @@
 -- What a cache knows, and with which outcomes that agrees.
-use Rattle.std.specs.Prelude.{ℕ, zero, suc, ◌-◌, ◌^◌, ◌≡◌, ◌≢◌, ◌≤◌, min, Bool, true, false, ◌&&◌, ◌==◌, List, [], ◌++◌, length, replicate, All, bytes_eq, nat_le, nat_lt, slice_index_or, slice_set, unwrap_or, if◌then◌else◌}
-use Rattle.std.specs.Map.{lookup, set_value, values_of}
+use Rattle.std.specs.Prelude.{ℕ, zero, suc, ◌-◌, ◌^◌, ◌≡◌, ◌≢◌, ◌≤◌, min, Bool, true, false, ◌&&◌, ◌==◌, List, [], ◌∷◌, ◌++◌, length, replicate, All, bytes_eq, nat_le, nat_lt, slice_index_or, slice_set, unwrap_or, is_some, if◌then◌else◌}
+use Rattle.std.specs.Map.{lookup, set_value, keys_of, values_of}
 use Rattle.objective.specs.Bounds.{Bounds}
 use Rattle.objective.specs.Costs.{Table}
 use Rattle.objective.specs.declared.Answer.{Answer}
@@ -72,6 +72,14 @@ grown place row = row ++ replicate (place - length row) Nothing
 -- the rows, with this known of a cell that has a place
 abbrev pub rows_with : Rows → Cell → Known → Rows
 rows_with rows cell known = set_value (bytes_eq cell.config) rows (slice_set (row_of rows cell.config) (cell.place - 1) known)
+
+-- the configurations that have a row, in the order in which they got it
+abbrev pub configs_of : Cached → List (List ℕ)
+configs_of c = keys_of c.rows
+
+-- these with a further one at the end, unless it is among them
+abbrev pub configs_with : Cached → List ℕ → List (List ℕ)
+configs_with c config = if is_some (lookup (bytes_eq config) c.rows) then configs_of c else configs_of c ++ config ∷ []
 
 -- the count of conflicts after a run, which stands still at the greatest number
 abbrev pub conflicts_after : ℕ → Bool → ℕ

@@ -1,18 +1,22 @@
 //! The cache.
-ghost use Rattle.std.specs.Prelude.{◌≡◌, ◌≢◌, ◌≤◌, ◌-◌, ℕ, List, [], IsTrue, IsOk, OnOk, OnErr};
+ghost use Rattle.std.specs.Prelude.{◌≡◌, ◌≢◌, ◌≤◌, ◌+◌, ℕ, suc, List, [], length, bytes_eq, IsTrue, IsOk, OnOk, OnErr, IfSome};
+ghost use Rattle.std.specs.List.{position};
 ghost use Rattle.objective.specs.declared.Outcome.{Outcome};
+ghost use Rattle.objective.specs.Bounds.{AreInRange};
 ghost use Rattle.objective.specs.Costs.{Table, IsWithin, seen};
 ghost use Rattle.objective.specs.Limits.{max_runs};
 ghost use Rattle.run_cache.specs.Knowledge.{Agrees, IsInRange};
+ghost use Rattle.run_cache.specs.Fronts.{front_of, sums_of};
 ghost use Rattle.run_cache.specs.Learning;
-ghost use Rattle.run_cache.specs.Caches.{IsCutoff, IsRow, AreRows, AgreesWith, GoesWith, row_of, rows_with, known_in, known_of, known_after, has_place_in, has_place_for, lesson_in, conflicts_after};
+ghost use Rattle.run_cache.specs.Caches.{IsCutoff, IsRow, AreRows, AgreesWith, GoesWith, row_of, rows_with, known_in, known_of, known_after, has_place_in, has_place_for, lesson_in, conflicts_after, configs_of, configs_with};
 
 use crate::cell::Cell;
+use crate::front::Front;
 use crate::known::{Known, Learnt, known_next};
 use crate::learning::{learnt, lesson_of};
 use crate::row::Row;
 use indexmap::IndexMap;
-use objective::{Answer, Limits, Memory, Micros};
+use objective::{Answer, Limits, Memory, Micros, Sum};
 use param_space::Config;
 use std::alloc::Global;
 use std::marker::Model;
@@ -49,6 +53,13 @@ fn count_after(conflicts: u64, conflict: bool) -> u64
     }
 }
 
+/// The limits lie in their ranges, which their type keeps.
+fn are_ranged(limits: &Limits)
+    ensures { AreInRange limits.now.cutoff limits.now.floor }
+{
+    let _ = &limits.cutoff;
+}
+
 impl Cache {
     /// A cache that knows nothing. Takes no memory.
     pub fn new(alloc: Global, limits: Limits) -> Cache
@@ -73,6 +84,53 @@ impl Cache {
         ensures { result ≡ self.now.conflicts }
     {
         self.conflicts
+    }
+
+    /// The number of configurations that have a row.
+    pub fn configs(&self) -> usize
+        ensures { result ≡ length (configs_of self.now) }
+    {
+        self.rows.len()
+    }
+
+    /// The configuration's number, from 0, in the order in which configurations first got a place.
+    pub fn number_of(&self, config: &Config) -> Option<usize>
+        ensures { result ≡ position (bytes_eq config.now) (configs_of self.now) }
+    {
+        self.rows.get_index_of(config)
+    }
+
+    /// What is known of a configuration up to its least place that isn't exact, by one look-up.
+    pub fn at_front(&self, config: &Config) -> Front<'_>
+        ensures sums { result.sums.now ≡ sums_of (row_of self.now.rows config.now) }
+        ensures known { result.known ≡ known_in self.now config.now (front_of (row_of self.now.rows config.now)) }
+        ensures few { length result.sums.now ≤ max_runs }
+        ensures in_range { IsRow self.now.limits (row_of self.now.rows config.now) }
+    {
+        match self.rows.get(config) {
+            Some(row) => row.at_front(),
+            None => Front {
+                sums: &[],
+                known: Known::Nothing,
+            },
+        }
+    }
+
+    /// The configuration's least place that isn't exact: 1 where it has no row.
+    pub fn front(&self, config: &Config) -> u32
+        ensures { result ≡ front_of (row_of self.now.rows config.now) }
+    {
+        self.sums(config).len() as u32 + 1
+    }
+
+    /// The sums of the costs of the places 1 to k, for each k before the configuration's front.
+    /// There are none where it has no row.
+    pub fn sums(&self, config: &Config) -> &[Sum]
+        ensures value { result.now ≡ sums_of (row_of self.now.rows config.now) }
+        ensures up_to_front { length result.now + 1 ≡ front_of (row_of self.now.rows config.now) }
+        ensures few { length result.now ≤ max_runs }
+    {
+        self.at_front(config).sums
     }
 
     /// What is known of a configuration by place, from place 1 on. Nothing is known past its end.
@@ -124,6 +182,7 @@ impl Cache {
         ensures known { known_in self.new ≡ known_in self.old }
         ensures limits { self.new.limits ≡ self.old.limits }
         ensures conflicts { self.new.conflicts ≡ self.old.conflicts }
+        ensures configs { OnOk result (configs_of self.new ≡ configs_with self.old cell.now.config) }
         ensures err { OnErr result (self.new ≡ self.old) }
         ensures has_place { IsTrue (has_place_for self.old cell.now) → IsOk result }
     {
@@ -145,6 +204,7 @@ impl Cache {
         requires in_range { IsInRange self.old.limits known }
         ensures { self.new ≡ record self.old { rows = rows_with self.old.rows cell.now known } }
     {
+        are_ranged(&self.limits);
         match self.rows.get_mut(&cell.config) {
             Some(row) => row.set(cell.place, known),
             None => unreachable!(),
@@ -164,6 +224,7 @@ impl Cache {
             ≡ conflicts_after self.old.conflicts (lesson_in self.old cell.now cutoff.0 answer).conflict }
         ensures limits { self.new.limits ≡ self.old.limits }
         ensures places { has_place_in self.new ≡ has_place_in self.old }
+        ensures configs { configs_of self.new ≡ configs_of self.old }
         ensures outcome { (o : Outcome) → Agrees self.old.limits (known_of self.old cell.now) o
             → answer ≡ seen o cutoff.0 → GoesWith self.old self.new cell.now o result }
         ensures table { (T : Table) → AgreesWith T self.old → answer ≡ seen (T cell.now.config cell.now.place) cutoff.0

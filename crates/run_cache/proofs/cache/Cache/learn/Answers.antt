@@ -1,7 +1,7 @@
 use Rattle.std.proofs.Common.{◌≡◌, ap, sym, subst, ◌∙◌}
 use Rattle.run_cache.specs.Learning.{lesson, learnt}
 use Rattle.run_cache.specs.Caches.{Cached, GoesWith, lesson_in, known_in, conflicts_after}
-use Rattle.run_cache.proofs.RowLemmas.{has_place_in-set}
+use Rattle.run_cache.proofs.RowLemmas.{has_place_in-set, configs-set}
 use Rattle.run_cache.proofs.LearningSteps.{IsStep, step-known, step-outcome, step-table}
 use Rattle.run_cache.proofs.cache.Cache.learn.Goals as goal
 
@@ -40,3 +40,6 @@ returns-clause-outcome c o agrees shown =
 
 pub returns-clause-table : goal.returns-clause-table
 returns-clause-table c = step-table c.args.self.now (after c) c.args.cell.now c.args.cutoff.0 c.args.answer c.lesson_of-lesson.result (step c)
+
+pub returns-clause-configs : goal.returns-clause-configs
+returns-clause-configs c = configs-set c.args.self.now (after c) c.args.cell.now c.lesson_of-lesson.result.known (step c).rows

@@ -1,8 +1,9 @@
 use Rattle.std.proofs.Common.{◌≡◌, None, ap, sym, subst, ◌∙◌}
 use Rattle.std.specs.Prelude.{bytes_eq}
 use Rattle.std.specs.Map.{lookup}
+use Rattle.indexmap.specs.IndexMap.{insert_entry}
 use Rattle.run_cache.specs.Caches.{Cached, AreRows}
-use Rattle.run_cache.proofs.RowLemmas.{AreExtended, AreExtended-written, AreExtended-inserted, Extends-tried, AreRows-written, AreRows-inserted, IsRow-tried, has_place-extended, known_in-extended, rows_unless}
+use Rattle.run_cache.proofs.RowLemmas.{AreExtended, AreExtended-written, AreExtended-inserted, Extends-tried, AreRows-written, AreRows-inserted, IsRow-tried, has_place-extended, known_in-extended, rows_unless, configs-inserted}
 use Rattle.run_cache.proofs.cache.Cache.reserve.Goals as goal
 
 pub invariant_of-self : goal.invariant_of-self
@@ -52,3 +53,12 @@ returns-clause-known c =
     let known = known_in-extended c.args.self.now (record { limits = c.self.inside.limits; conflicts = c.self.inside.conflicts; rows = c.insert.new.self.entries })
     (subst (λ v. AreExtended v.rows c.insert.new.self.entries) c.self.view_is (subst (λ n. AreExtended n.entries c.insert.new.self.entries) c.get_mut.follows.holds-at-none all)) in
     known
+
+pub returns-clause-configs : goal.returns-clause-configs
+returns-clause-configs c =
+    let absent : lookup (bytes_eq c.args.cell.now.config) c.self.inside.rows.entries ≡ None = sym (c.in_default.ensures.value) in
+    configs-inserted c.args.self.now (record { limits = c.self.inside.limits; conflicts = c.self.inside.conflicts; rows = c.insert.new.self.entries })
+    c.args.cell.now.config c.in_ok-config.config c.in_ok-row.row
+    (subst (λ v. lookup (bytes_eq c.args.cell.now.config) v.rows ≡ None) c.self.view_is absent) c.in_ok-config.ensures
+    (c.in_ok-insert.ensures.entries ∙ ap (λ m. insert_entry bytes_eq m.entries c.in_ok-config.config c.in_ok-row.row) c.get_mut.follows.holds-at-none
+    ∙ ap (λ v. insert_entry bytes_eq v.rows c.in_ok-config.config c.in_ok-row.row) c.self.view_is)
