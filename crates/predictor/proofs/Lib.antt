@@ -1,4 +1,5 @@
 mod AddedRuns
+mod KeptSteps
 mod Turns
 pub mod PresentWishes
 mod NeededPlaces

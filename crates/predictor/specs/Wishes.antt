@@ -1,13 +1,13 @@
 -- Wishes: the runs that may be needed next, told by what a search shows after the replies that are likely.
-use Rattle.std.specs.Prelude.{ℕ, zero, suc, ◌-◌, List, [], ◌∷◌, ◌++◌, Option, Some, None}
+use Rattle.std.specs.Prelude.{ℕ, zero, suc, ◌-◌, Bool, true, false, List, [], ◌∷◌, ◌++◌, Option, Some, None}
 use Rattle.objective.specs.Bounds.{Bounds}
 use Rattle.uncapped.specs.Procedure.{Settings}
 use Rattle.ils_face.specs.declared.asks.Ask.{Ask}
-use Rattle.ils_face.specs.declared.asks.Ask.TheVariants.{Full, Versus}
+use Rattle.ils_face.specs.declared.asks.Ask.TheVariants.{Full, Versus, End}
 use Rattle.ils_face.specs.declared.asks.Reply.{Reply}
 use Rattle.ils_face.specs.declared.asks.Reply.TheVariants.{Exceeds}
 use Rattle.ils_face.specs.Views.{View}
-use Rattle.run_cache.specs.Caches.{Knowledge}
+use Rattle.run_cache.specs.Caches.{Cached, Knowledge, known_in}
 use Rattle.capping.specs.declared.verdicts.Verdict.{Verdict}
 use Rattle.capping.specs.declared.verdicts.Verdict.TheVariants.{Need, Reply as Replied}
 use Rattle.capping.specs.Verdicts.{verdict_of}
@@ -38,6 +38,12 @@ turn_of ask (Replied r) = record { runs = []; reply = Some r }
 turn_of (Full θ n) (Need place cutoff) = ends (run_of θ place cutoff.0 ∷ runs_after θ cutoff.0 place n)
 turn_of (Versus θ n bound) (Need place cutoff) = record { runs = run_of θ place cutoff.0 ∷ []; reply = Some Exceeds }
 turn_of ask verdict = ends []
+
+-- an ask has a bound
+abbrev pub has_bound : Ask → Bool
+has_bound (Full θ n) = false
+has_bound (Versus θ n bound) = true
+has_bound End = false
 
 -- the runs of a turn, and those after the reply that it ends with
 abbrev pub followed_by : AheadTurn → (Reply → List Wish) → List Wish
@@ -71,3 +77,8 @@ module _ (shown : List Reply → View) (limits : Bounds) (known : Knowledge) whe
   -- the wishes after these replies, at most k
   abbrev pub wishes_of : List Reply → ℕ → List Wish
   wishes_of replies k = wishes_at replies (shown replies).ask (verdict_after replies) k
+
+-- the wishes at an ask after these replies, by what a cache knows: at most k
+abbrev pub wishes_by : (List Reply → View) → Cached → List Reply → Ask → ℕ → List Wish
+wishes_by shown cache replies ask k =
+    wishes_at shown cache.limits (known_in cache) replies ask (verdict_of cache.limits (known_in cache) ask) k

@@ -6,8 +6,11 @@
 #![tactic(auto)]
 
 mod choice;
+mod foresight;
+mod look_ahead;
 mod prediction;
 mod wish;
 
+pub use foresight::Foresight;
 pub use prediction::wishes;
 pub use wish::Wish;

@@ -1,5 +1,5 @@
 //! What a search may need next.
-ghost use Rattle.std.specs.Prelude.{◌≡◌, ◌≤◌, ◌++◌, ◌∷◌, [], All, length, IfOk, OnOk, IfSome, IsSomeAnd};
+ghost use Rattle.std.specs.Prelude.{◌≡◌, ◌≤◌, List, false, All, length, IfOk, OnOk, IfSome, IsSomeAnd};
 ghost use Rattle.objective.specs.Limits.{max_runs};
 ghost use Rattle.ils_face.specs.PresentViews.{view_of};
 ghost use Rattle.ils_face.specs.Replies.{Fits};
@@ -8,20 +8,20 @@ ghost use Rattle.run_cache.specs.Caches.{known_in};
 ghost use Rattle.capping.specs.Decisions.{place_count, IsNeeded};
 ghost use Rattle.capping.specs.declared.verdicts.Verdict.TheVariants.{Need};
 ghost use Rattle.predictor.specs.Choices.{with_runs};
-ghost use Rattle.predictor.specs.Wishes.{turn_of};
+ghost use Rattle.ils_face.specs.Views.{View};
+ghost use Rattle.predictor.specs.Wishes.{turn_of, wishes_by};
+ghost use Rattle.predictor.specs.Wishes as wishes;
 ghost use Rattle.predictor.specs.Promises.{IsWish, TellsMore, AreApart};
-ghost use Rattle.predictor.specs.SearchWishes.{turn_by, found_ahead, wishes_on, wishes_now, needed_now};
+ghost use Rattle.predictor.specs.SearchWishes.{turn_by, wishes_on, wishes_now, needed_now};
 
 use crate::choice::Choice;
+use crate::look_ahead::LookAhead;
 use crate::wish::Wish;
 use capping::{Verdict, decide};
 use ils_face::{Ask, Reply, Search};
 use objective::{Memory, Micros};
 use run_cache::Cache;
 use std::alloc::Global;
-
-/// The turns of a look ahead, at most.
-const TURNS: u32 = 256;
 
 /// Adds the runs that a turn finds at an ask that needs a run, and gives the reply that the
 /// search is followed by, unless the turn is the last.
@@ -54,7 +54,7 @@ fn add_needed(
 
 /// Adds the runs that a turn finds at an ask, and gives the reply that the search is followed
 /// by, unless the turn is the last.
-fn add_turn(choice: &mut Choice, cache: &Cache, ask: &Ask) -> Result<Option<Reply>, Memory>
+pub(crate) fn add_turn(choice: &mut Choice, cache: &Cache, ask: &Ask) -> Result<Option<Reply>, Memory>
     requires { place_count ask.now ≤ max_runs }
     ensures runs { let turn = turn_by cache.now ask.now in
         OnOk result (choice.new ≡ with_runs (known_in cache.now) choice.old turn.runs) }
@@ -68,33 +68,34 @@ fn add_turn(choice: &mut Choice, cache: &Cache, ask: &Ask) -> Result<Option<Repl
     }
 }
 
-/// Adds the runs of at most `TURNS` turns from the present ask on, while there is room.
-fn add_turns<P: Search>(choice: &mut Choice, cache: &Cache, ahead: &mut P) -> Result<(), Memory>
-    ensures { let runs = found_ahead P.Search ahead.old cache.now (P.replies_of ahead.old) in
-        OnOk result (choice.new ≡ with_runs (known_in cache.now) choice.old runs) }
+/// Whether an ask has a bound.
+pub(crate) fn has_bound(ask: &Ask) -> bool
+    ensures { result ≡ wishes.has_bound ask.now }
 {
-    for _turn in 0..TURNS {
-        let Some(reply) = add_turn(choice, cache, ahead.ask())? else {
-            return Ok(());
-        };
-        if !choice.has_room() {
-            return Ok(());
-        }
-        ahead.answer(reply)?;
-    }
-    Ok(())
+    matches!(ask, Ask::Versus { .. })
 }
 
-/// Adds the runs that come should the bound of the present ask be exceeded. Makes one copy of
-/// the search.
-fn look_ahead<P: Search>(choice: &mut Choice, cache: &Cache, search: &P) -> Result<(), Memory>
-    requires { Fits (view_of P.Search search.now).ask Reply.Exceeds }
-    ensures { let runs = found_ahead P.Search search.now cache.now (P.replies_of search.now ++ Reply.Exceeds ∷ []) in
-        OnOk result (choice.new ≡ with_runs (known_in cache.now) choice.old runs) }
+/// The wishes at an ask without a bound: its later places. Nothing is looked ahead for them.
+pub(crate) fn wishes_at_once(
+    alloc: Global,
+    cache: &Cache,
+    ask: &Ask,
+    k: u32,
+) -> Result<Vec<Wish>, Memory>
+    requires few { place_count ask.now ≤ max_runs }
+    requires without { wishes.has_bound ask.now ≡ false }
+    ensures { (shown : List Reply → View) (replies : List Reply)
+        → IfOk result (λ w. w.items ≡ wishes_by shown cache.now replies ask.now k) }
 {
-    let mut ahead = search.copy()?;
-    ahead.answer(Reply::Exceeds)?;
-    add_turns(choice, cache, &mut ahead)
+    let Verdict::Need { place, cutoff } = decide(cache, ask) else {
+        return Ok(Vec::new(alloc));
+    };
+    let Ask::Full { config, n } = ask else {
+        return Ok(Vec::new(alloc));
+    };
+    let mut choice = Choice::new(alloc, config, place, k)?;
+    choice.add_after(cache, config, place, *n, cutoff)?;
+    Ok(choice.into_wishes())
 }
 
 /// The wishes at an ask, which is the search's present one.
@@ -109,23 +110,10 @@ fn wishes_for<P: Search>(
     requires places { place_count ask.now ≤ max_runs }
     ensures { IfOk result (λ w. w.items ≡ wishes_on P.Search search.now cache.now ask.now k) }
 {
-    let Verdict::Need { place, cutoff } = decide(cache, ask) else {
-        return Ok(Vec::new(alloc));
-    };
-    match ask {
-        Ask::Full { config, n } => {
-            let mut choice = Choice::new(alloc, config, place, k)?;
-            choice.add_after(cache, config, place, *n, cutoff)?;
-            Ok(choice.into_wishes())
-        }
-        Ask::Versus { config, n, .. } => {
-            let mut choice = Choice::new(alloc, config, place, k)?;
-            look_ahead(&mut choice, cache, search)?;
-            choice.add_after(cache, config, place, *n, cutoff)?;
-            Ok(choice.into_wishes())
-        }
-        Ask::End => Ok(Vec::new(alloc)),
+    if !has_bound(ask) {
+        return wishes_at_once(alloc, cache, ask, k);
     }
+    LookAhead::new(alloc, search.copy()?).first_wishes(alloc, cache, k)
 }
 
 /// At most k runs that may be needed after the one that is needed now, in the order in which idle
