@@ -7,7 +7,7 @@ ghost use Rattle.board_steps.specs.Steps.{advanced_on, after_advance, with_reply
 ghost use Rattle.pool_core.specs.OpenBoards.{IsRunnableAt, StandsAt};
 
 use crate::board::Board;
-use crate::present_asks::{asked_cell, same_wishes, verdict_by, wishes_after, wishes_now};
+use crate::present_asks::{answer_search, asked_cell, same_wishes, verdict_by, wishes_now};
 use board_steps::{Advanced, BoardVerdict, Problem};
 use capping::Verdict;
 use ils_face::{Reply, Search};
@@ -39,7 +39,7 @@ impl<P: Search, S: Spawner> Board<P, S> {
         }
     }
 
-    /// Answers the search. The wishes are made first, on a copy.
+    /// Answers the search. What is looked ahead from where it comes is found before it moves on.
     fn answer(&mut self, reply: Reply) -> Result<Advanced, Memory>
         requires stands { StandsAt P.shown self.old (Verdict.Reply reply) }
         requires fits { Fits (ask_on P.shown (plain_board self.old)) reply }
@@ -49,9 +49,8 @@ impl<P: Search, S: Spawner> Board<P, S> {
     {
         let alloc = *self.wishes.allocator();
         let others = others(&self.problem);
-        let wishes = wishes_after(alloc, &self.search, &self.cache, reply, others)?;
         self.ledger.make_room()?;
-        self.search.answer(reply)?;
+        let wishes = answer_search(alloc, &mut self.search, &self.cache, reply, others)?;
         self.wishes = wishes;
         self.decided = Some(verdict_by(&self.search, &self.cache));
         self.ledger.advance();
@@ -82,7 +81,7 @@ impl<P: Search, S: Spawner> Board<P, S> {
     {
         let alloc = *self.wishes.allocator();
         let others = others(&self.problem);
-        let wishes = wishes_now(alloc, &self.search, &self.cache, others)?;
+        let wishes = wishes_now(alloc, &mut self.search, &self.cache, others)?;
         if same_wishes(&self.wishes, &wishes) {
             self.decided = Some(Verdict::Need { place, cutoff });
             return Ok(Advanced::Waits);

@@ -20,7 +20,7 @@ use capping::Verdict;
 use ils_face::{Ask, Search};
 use objective::{Memory, World};
 use outside::Spawner;
-use predictor::Wish;
+use predictor::{Foresight, Wish};
 use run_cache::{Cache, Cell};
 use std::alloc::Global;
 use std::marker::{Model, PhantomData};
@@ -42,7 +42,7 @@ pub enum Ending<'a> {
 #[derive(Drop)]
 pub struct Board<P: Search, S: Spawner> {
     pub(crate) problem: Problem,
-    pub(crate) search: P,
+    pub(crate) search: Foresight<P>,
     pub(crate) cache: Cache,
     pub(crate) wishes: Vec<Wish>,
     /// The verdict on the present ask, once it and the wishes were made by all that is known.
@@ -58,18 +58,19 @@ impl<P: Search, S: Spawner> Model for Board<P, S> {
 
     ghost Value = { BoardState };
 
-    ghost view = { λ b. state_of b.problem (P.replies_of b.search) b.cache b.wishes.items b.aborted b.ledger };
+    ghost view = { λ b. state_of b.problem b.search.replies b.cache b.wishes.items b.aborted b.ledger };
 
-    ghost invariant = { λ b. IsBoard P.shown P.plain S.truth (P.rules_of b.search) b.decided (view b) };
+    ghost invariant = { λ b. IsBoard P.shown P.plain S.truth b.search.rules b.decided (view b) };
 }
 
 /// A search by the rules of a problem.
-fn open_search<P: Search>(alloc: Global, problem: &Problem) -> Result<P, Memory>
-    ensures rules { IfOk result (λ s. P.rules_of s ≡ problem.now.rules) }
-    ensures none { IfOk result (λ s. P.replies_of s ≡ []) }
-    ensures ruled { IfOk result (λ s. AreRules (P.rules_of s)) }
+fn open_search<P: Search>(alloc: Global, problem: &Problem) -> Result<Foresight<P>, Memory>
+    ensures rules { IfOk result (λ s. s.rules ≡ problem.now.rules) }
+    ensures none { IfOk result (λ s. s.replies ≡ []) }
+    ensures ruled { IfOk result (λ s. AreRules s.rules) }
 {
-    P::open(alloc, &problem.rules)
+    let search = P::open(alloc, &problem.rules)?;
+    Ok(Foresight::new(search))
 }
 
 /// A cache under the limits of a problem.
@@ -119,7 +120,7 @@ impl<P: Search, S: Spawner> Board<P, S> {
         ensures rules { P.rules_of result.now ≡ self.now.problem.rules }
         ensures replies { P.replies_of result.now ≡ self.now.replies }
     {
-        &self.search
+        self.search.search()
     }
 
     /// What is known.
@@ -175,7 +176,7 @@ impl<P: Search, S: Spawner> Board<P, S> {
     {
         match &self.aborted {
             Some(cell) => Ending::Aborted(cell),
-            None => match self.search.ask() {
+            None => match self.search.search().ask() {
                 Ask::End => Ending::Finished,
                 _ => Ending::Running,
             },

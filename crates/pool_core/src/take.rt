@@ -122,7 +122,7 @@ impl<P: Search, S: Spawner> Board<P, S> {
             cell,
             run: Run { key, cutoff },
             kind,
-            place: self.search.answers(),
+            place: self.search.search().answers(),
         })
     }
 

@@ -1,8 +1,9 @@
 //! A search that is looked ahead.
-ghost use Rattle.std.specs.Prelude.{◌≡◌, ◌++◌, [], ◌∷◌, IfOk, IfSome, OnOk, OnErr};
+ghost use Rattle.std.specs.Prelude.{◌≡◌, ◌++◌, [], ◌∷◌, All, IfOk, IfSome, OnOk, OnErr};
 ghost use Rattle.ils_face.specs.Replies.{Fits};
 ghost use Rattle.run_cache.specs.Caches.{known_in};
 ghost use Rattle.predictor.specs.Foresights.{BeginsAt, after_reply};
+ghost use Rattle.predictor.specs.Promises.{IsWish};
 ghost use Rattle.predictor.specs.Wishes.{wishes_of};
 
 use crate::look_ahead::LookAhead;
@@ -74,6 +75,19 @@ impl<P: Search> Foresight<P> {
         ensures value { let shown = P.shown self.old.rules in
             let wished = wishes_of shown cache.now.limits (known_in cache.now) self.old.replies k in
             IfOk result (λ w. w.items ≡ wished) }
+        ensures each { IfOk result (λ w. All (IsWish self.old.rules cache.now.limits) w.items) }
+    {
+        let _ = self.search.ask(); // it tells what the replies so far are
+        let _ = &cache.limits().cutoff; // its type keeps it in range
+        self.look(alloc, cache, k)
+    }
+
+    /// The wishes at the present ask, by a look ahead where it has a bound.
+    fn look(&mut self, alloc: Global, cache: &Cache, k: u32) -> Result<Vec<Wish>, Memory>
+        ensures same { self.new ≡ self.old }
+        ensures value { let shown = P.shown self.old.rules in
+            let wished = wishes_of shown cache.now.limits (known_in cache.now) self.old.replies k in
+            IfOk result (λ w. w.items ≡ wished) }
     {
         if k == 0 {
             return Ok(Vec::new(alloc));
@@ -125,6 +139,28 @@ impl<P: Search> Foresight<P> {
     /// Answers the search, and gives the wishes at the ask that comes, at most k. After want of memory
     /// the search is as it was.
     pub fn answer(
+        &mut self,
+        alloc: Global,
+        cache: &Cache,
+        reply: Reply,
+        k: u32,
+    ) -> Result<Vec<Wish>, Memory>
+        requires { Fits (P.shown self.old.rules self.old.replies).ask reply }
+        ensures taken { OnOk result (self.new ≡ after_reply self.old reply) }
+        ensures value { let shown = P.shown self.old.rules in
+            let replies = self.old.replies ++ reply ∷ [] in
+            let wished = wishes_of shown cache.now.limits (known_in cache.now) replies k in
+            IfOk result (λ w. w.items ≡ wished) }
+        ensures each { IfOk result (λ w. All (IsWish self.old.rules cache.now.limits) w.items) }
+        ensures err { OnErr result (self.new ≡ self.old) }
+    {
+        let _ = self.search.ask(); // it tells what the replies so far are
+        let _ = &cache.limits().cutoff; // its type keeps it in range
+        self.go_on(alloc, cache, reply, k)
+    }
+
+    /// Answers the search, with a look ahead from where it comes.
+    fn go_on(
         &mut self,
         alloc: Global,
         cache: &Cache,

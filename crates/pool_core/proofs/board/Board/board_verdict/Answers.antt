@@ -6,13 +6,13 @@ use Rattle.pool_core.proofs.board.Board.board_verdict.Goals as goal
 pub returns-then-stopped-clause-value : goal.returns-then-stopped-clause-value
 returns-then-stopped-clause-value g c =
     let i = c.self.inside in
-    let b = state_of i.problem (g.P.Search.replies_of i.search) i.cache i.wishes.items i.aborted i.ledger in
+    let b = state_of i.problem i.search.replies i.cache i.wishes.items i.aborted i.ledger in
     rw (← c.self.view_is) (board_verdict-stopped g.P.Search.shown b (sym c.stopped.ensures ∙ c.if-stopped.true))
 
 pub returns-then-is_some-clause-value : goal.returns-then-is_some-clause-value
 returns-then-is_some-clause-value g c =
     let i = c.self.inside in
-    let b = state_of i.problem (g.P.Search.replies_of i.search) i.cache i.wishes.items i.aborted i.ledger in
+    let b = state_of i.problem i.search.replies i.cache i.wishes.items i.aborted i.ledger in
     rw (← c.self.view_is) (board_verdict-aborted g.P.Search.shown b (sym c.stopped.ensures ∙ c.if-stopped.false) (sym c.is_some.ensures ∙ c.if-is_some.true))
 
 pub returns-clause-value : goal.returns-clause-value

@@ -25,7 +25,7 @@ give-requires-clause-number g c =
 pub invariant_of-self-in_err-give : goal.invariant_of-self-in_err-give
 invariant_of-self-in_err-give g c =
     let i = c.self.inside in
-    let b = state_of i.problem (g.P.Search.replies_of i.search) i.cache i.wishes.items i.aborted i.ledger in
+    let b = state_of i.problem i.search.replies i.cache i.wishes.items i.aborted i.ledger in
     let e = c.reserve.ensures in
     let places = step-places g.P.Search.shown g.P.Search.plain g.S.Spawner.truth b c.reserve.new.self e.limits e.known e.conflicts e.places c.self.invariant.board in
     record {
@@ -37,7 +37,7 @@ invariant_of-self-in_err-give g c =
 pub returns-in_err-give-clause-err : goal.returns-in_err-give-clause-err
 returns-in_err-give-clause-err g c =
     let i = c.self.inside in
-    let b = state_of i.problem (g.P.Search.replies_of i.search) i.cache i.wishes.items i.aborted i.ledger in
+    let b = state_of i.problem i.search.replies i.cache i.wishes.items i.aborted i.ledger in
     let e = c.reserve.ensures in
     let places = step-places g.P.Search.shown g.P.Search.plain g.S.Spawner.truth b c.reserve.new.self e.limits e.known e.conflicts e.places c.self.invariant.board in
     rw (c.in_err-give.ensures.err, ← c.self.view_is) (always-err _ places.plain_is)
@@ -45,7 +45,7 @@ returns-in_err-give-clause-err g c =
 pub invariant_of-self-2 : goal.invariant_of-self-2
 invariant_of-self-2 g c =
     let i = c.self.inside in
-    let b = state_of i.problem (g.P.Search.replies_of i.search) i.cache i.wishes.items i.aborted i.ledger in
+    let b = state_of i.problem i.search.replies i.cache i.wishes.items i.aborted i.ledger in
     let e = c.reserve.ensures in
     let places = step-places g.P.Search.shown g.P.Search.plain g.S.Spawner.truth b c.reserve.new.self e.limits e.known e.conflicts e.places c.self.invariant.board in
     let copied = c.in_ok-cell.ensures ∙ sym (ap (λ x. x.cell) c.in_ok-kept.ensures) in
@@ -61,7 +61,7 @@ invariant_of-self-2 g c =
 pub returns-clause-board : goal.returns-clause-board
 returns-clause-board g c =
     let i = c.self.inside in
-    let b = state_of i.problem (g.P.Search.replies_of i.search) i.cache i.wishes.items i.aborted i.ledger in
+    let b = state_of i.problem i.search.replies i.cache i.wishes.items i.aborted i.ledger in
     let e = c.reserve.ensures in
     let places = step-places g.P.Search.shown g.P.Search.plain g.S.Spawner.truth b c.reserve.new.self e.limits e.known e.conflicts e.places c.self.invariant.board in
     let copied = c.in_ok-cell.ensures ∙ sym (ap (λ x. x.cell) c.in_ok-kept.ensures) in

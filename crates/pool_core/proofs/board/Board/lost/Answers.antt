@@ -10,7 +10,7 @@ lose-requires g c = is-some _ _ (found-some c.self.inside.ledger.live c.args.tic
 pub invariant_of-self : goal.invariant_of-self
 invariant_of-self g c =
     let i = c.self.inside in
-    let b = state_of i.problem (g.P.Search.replies_of i.search) i.cache i.wishes.items i.aborted i.ledger in
+    let b = state_of i.problem i.search.replies i.cache i.wishes.items i.aborted i.ledger in
     let l = c.in-Some.l.now in
     let found = found-some i.ledger.live c.args.ticket.now l c.in-Some.ensures in
     let lost = some-then _ _ l found c.lose.ensures in
@@ -23,13 +23,13 @@ invariant_of-self g c =
 pub returns-in-None-clause-board : goal.returns-in-None-clause-board
 returns-in-None-clause-board g c =
     let i = c.self.inside in
-    let b = state_of i.problem (g.P.Search.replies_of i.search) i.cache i.wishes.items i.aborted i.ledger in
+    let b = state_of i.problem i.search.replies i.cache i.wishes.items i.aborted i.ledger in
     rw (← c.self.view_is) (lost-none b c.args.ticket.now c.in-None.ensures)
 
 pub returns-in-Some-clause-board : goal.returns-in-Some-clause-board
 returns-in-Some-clause-board g c =
     let i = c.self.inside in
-    let b = state_of i.problem (g.P.Search.replies_of i.search) i.cache i.wishes.items i.aborted i.ledger in
+    let b = state_of i.problem i.search.replies i.cache i.wishes.items i.aborted i.ledger in
     let l = c.in-Some.l.now in
     let found = found-some i.ledger.live c.args.ticket.now l c.in-Some.ensures in
     let lost = some-then _ _ l found c.lose.ensures in

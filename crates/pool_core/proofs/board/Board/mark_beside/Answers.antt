@@ -8,13 +8,13 @@ use Rattle.pool_core.proofs.board.Board.mark_beside.Goals as goal
 pub asked_config-config-requires : goal.asked_config-config-requires
 asked_config-config-requires g c =
     let i = c.self.inside in
-    let b = state_of i.problem (g.P.Search.replies_of i.search) i.cache i.wishes.items i.aborted i.ledger in
-    no-end g.P.Search.shown c.args.self.now b (g.P.Search.rules_of i.search) c.args.place c.args.cutoff c.self.view_is c.self.invariant.rules_same c.requires
+    let b = state_of i.problem i.search.replies i.cache i.wishes.items i.aborted i.ledger in
+    no-end g.P.Search.shown c.args.self.now b i.search.rules c.args.place c.args.cutoff c.self.view_is c.self.invariant.rules_same c.requires
 
 pub invariant_of-self : goal.invariant_of-self
 invariant_of-self g c =
     let i = c.self.inside in
-    let b = state_of i.problem (g.P.Search.replies_of i.search) i.cache i.wishes.items i.aborted i.ledger in
+    let b = state_of i.problem i.search.replies i.cache i.wishes.items i.aborted i.ledger in
     let needed : NeededRun = record { cell = record { config = c.asked_config-config.result.now; place = c.args.place }; cutoff = c.args.cutoff.0 } in
     let seen = is_unwanted_beside c.as_slice-wishes.result.now needed in
     record {
@@ -27,12 +27,12 @@ pub returns-clause-answer : goal.returns-clause-answer
 returns-clause-answer g c =
     let shown = g.P.Search.shown in
     let i = c.self.inside in
-    let b = state_of i.problem (g.P.Search.replies_of i.search) i.cache i.wishes.items i.aborted i.ledger in
+    let b = state_of i.problem i.search.replies i.cache i.wishes.items i.aborted i.ledger in
     let wishes = c.as_slice-wishes.result.now in
     let config = c.asked_config-config.result.now in
     let needed : NeededRun = record { cell = record { config = config; place = c.args.place }; cutoff = c.args.cutoff.0 } in
     let seen = is_unwanted_beside wishes needed in
-    let unwanted = unwanted-beside shown c.args.self.now b (g.P.Search.rules_of i.search) wishes config c.args.place c.args.cutoff c.self.view_is c.self.invariant.rules_same c.requires
+    let unwanted = unwanted-beside shown c.args.self.now b i.search.rules wishes config c.args.place c.args.cutoff c.self.view_is c.self.invariant.rules_same c.requires
     c.as_slice-wishes.ensures.value c.asked_config-config.ensures in
     rw (← c.self.view_is) (c.mark_beside.ensures.count ∙ count-as shown b seen unwanted)
 
@@ -40,11 +40,11 @@ pub returns-clause-board : goal.returns-clause-board
 returns-clause-board g c =
     let shown = g.P.Search.shown in
     let i = c.self.inside in
-    let b = state_of i.problem (g.P.Search.replies_of i.search) i.cache i.wishes.items i.aborted i.ledger in
+    let b = state_of i.problem i.search.replies i.cache i.wishes.items i.aborted i.ledger in
     let wishes = c.as_slice-wishes.result.now in
     let config = c.asked_config-config.result.now in
     let needed : NeededRun = record { cell = record { config = config; place = c.args.place }; cutoff = c.args.cutoff.0 } in
     let seen = is_unwanted_beside wishes needed in
-    let unwanted = unwanted-beside shown c.args.self.now b (g.P.Search.rules_of i.search) wishes config c.args.place c.args.cutoff c.self.view_is c.self.invariant.rules_same c.requires
+    let unwanted = unwanted-beside shown c.args.self.now b i.search.rules wishes config c.args.place c.args.cutoff c.self.view_is c.self.invariant.rules_same c.requires
     c.as_slice-wishes.ensures.value c.asked_config-config.ensures in
     rw (c.mark_beside.ensures.marked, ← c.self.view_is) ((step-marks shown g.P.Search.plain g.S.Spawner.truth b seen c.self.invariant.board).plain_is ∙ marked-as shown (plain_board b) seen unwanted)

@@ -9,7 +9,7 @@ pub returns : goal.returns
 returns g c =
     let shown = g.P.Search.shown in
     let i = c.self.inside in
-    let b = state_of i.problem (g.P.Search.replies_of i.search) i.cache i.wishes.items i.aborted i.ledger in
+    let b = state_of i.problem i.search.replies i.cache i.wishes.items i.aborted i.ledger in
     IfOk-weaker c.asked_cell.result _ _ (λ cell is.
     let N : BoardState → Type 0 = λ x. cell ≡ asked_cell shown (plain_board x) c.args.place in
-    subst N c.self.view_is (asked-now shown b (g.P.Search.rules_of i.search) cell c.args.place c.self.invariant.rules_same is)) c.asked_cell.ensures
+    subst N c.self.view_is (asked-now shown b i.search.rules cell c.args.place c.self.invariant.rules_same is)) c.asked_cell.ensures

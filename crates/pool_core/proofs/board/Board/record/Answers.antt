@@ -25,7 +25,7 @@ end-requires g c = is-some _ _ (found-some c.self.inside.ledger.live c.args.tick
 pub invariant_of-self : goal.invariant_of-self
 invariant_of-self g c =
     let i = c.self.inside in
-    let b = state_of i.problem (g.P.Search.replies_of i.search) i.cache i.wishes.items i.aborted i.ledger in
+    let b = state_of i.problem i.search.replies i.cache i.wishes.items i.aborted i.ledger in
     let l = c.in-Some.l.now in
     let found = found-some i.ledger.live c.args.ticket.now l c.in-Some.ensures in
     let same = ticket-found i.ledger.live c.args.ticket.now l c.in-Some.ensures in
@@ -41,37 +41,37 @@ invariant_of-self g c =
 pub returns-in-None-clause-answer : goal.returns-in-None-clause-answer
 returns-in-None-clause-answer g c =
     let i = c.self.inside in
-    let b = state_of i.problem (g.P.Search.replies_of i.search) i.cache i.wishes.items i.aborted i.ledger in
+    let b = state_of i.problem i.search.replies i.cache i.wishes.items i.aborted i.ledger in
     rw (← c.self.view_is) (recorded-none b c.args.ticket.now c.args.answer c.in-None.ensures)
 
 pub returns-in-None-clause-board : goal.returns-in-None-clause-board
 returns-in-None-clause-board g c =
     let i = c.self.inside in
-    let b = state_of i.problem (g.P.Search.replies_of i.search) i.cache i.wishes.items i.aborted i.ledger in
+    let b = state_of i.problem i.search.replies i.cache i.wishes.items i.aborted i.ledger in
     rw (← c.self.view_is) (record-none b c.args.ticket.now c.args.answer c.in-None.ensures)
 
 pub returns-then-l-clause-answer : goal.returns-then-l-clause-answer
 returns-then-l-clause-answer g c =
     let i = c.self.inside in
-    let b = state_of i.problem (g.P.Search.replies_of i.search) i.cache i.wishes.items i.aborted i.ledger in
+    let b = state_of i.problem i.search.replies i.cache i.wishes.items i.aborted i.ledger in
     rw (← c.self.view_is) (recorded-marked b c.args.ticket.now c.args.answer c.in-Some.l.now c.in-Some.ensures c.if-l.true)
 
 pub returns-then-l-clause-board : goal.returns-then-l-clause-board
 returns-then-l-clause-board g c =
     let i = c.self.inside in
-    let b = state_of i.problem (g.P.Search.replies_of i.search) i.cache i.wishes.items i.aborted i.ledger in
+    let b = state_of i.problem i.search.replies i.cache i.wishes.items i.aborted i.ledger in
     rw (← c.self.view_is) (record-marked b c.args.ticket.now c.args.answer c.in-Some.l.now c.in-Some.ensures c.if-l.true)
 
 pub returns-else-l-clause-answer : goal.returns-else-l-clause-answer
 returns-else-l-clause-answer g c =
     let i = c.self.inside in
-    let b = state_of i.problem (g.P.Search.replies_of i.search) i.cache i.wishes.items i.aborted i.ledger in
+    let b = state_of i.problem i.search.replies i.cache i.wishes.items i.aborted i.ledger in
     rw (c.recorded_as.ensures, c.learn-learnt.ensures.answer, ← c.self.view_is) (recorded-live b c.args.ticket.now c.args.answer c.in-Some.l.now c.self.invariant.board.limits c.in-Some.ensures c.if-l.false)
 
 pub returns-else-l-clause-board : goal.returns-else-l-clause-board
 returns-else-l-clause-board g c =
     let i = c.self.inside in
-    let b = state_of i.problem (g.P.Search.replies_of i.search) i.cache i.wishes.items i.aborted i.ledger in
+    let b = state_of i.problem i.search.replies i.cache i.wishes.items i.aborted i.ledger in
     let l = c.in-Some.l.now in
     let found = found-some i.ledger.live c.args.ticket.now l c.in-Some.ensures in
     let same = ticket-found i.ledger.live c.args.ticket.now l c.in-Some.ensures in

@@ -10,7 +10,7 @@ returns-then-not-is_halted-clause-board g c = resume-going c.args.self.now (sym 
 pub invariant_of-self-2 : goal.invariant_of-self-2
 invariant_of-self-2 g c =
     let i = c.self.inside in
-    let b = state_of i.problem (g.P.Search.replies_of i.search) i.cache i.wishes.items i.aborted i.ledger in
+    let b = state_of i.problem i.search.replies i.cache i.wishes.items i.aborted i.ledger in
     let halted = subst IsHalted (sym c.self.view_is) (sym c.is_halted.ensures ∙ c.if-not-is_halted.false) in
     record {
       rules_same = c.self.invariant.rules_same;
@@ -21,6 +21,6 @@ invariant_of-self-2 g c =
 pub returns-clause-board : goal.returns-clause-board
 returns-clause-board g c =
     let i = c.self.inside in
-    let b = state_of i.problem (g.P.Search.replies_of i.search) i.cache i.wishes.items i.aborted i.ledger in
+    let b = state_of i.problem i.search.replies i.cache i.wishes.items i.aborted i.ledger in
     let halted = subst IsHalted (sym c.self.view_is) (sym c.is_halted.ensures ∙ c.if-not-is_halted.false) in
     rw (c.in_ok-resume.ensures.ok, ← c.self.view_is) ((step-resume g.P.Search.shown g.P.Search.plain g.S.Spawner.truth b halted c.self.invariant.board).plain_is ∙ resume-halted b halted)

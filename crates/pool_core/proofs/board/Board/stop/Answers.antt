@@ -7,7 +7,7 @@ use Rattle.pool_core.proofs.board.Board.stop.Goals as goal
 pub invariant_of-self : goal.invariant_of-self
 invariant_of-self g c =
     let i = c.self.inside in
-    let b = state_of i.problem (g.P.Search.replies_of i.search) i.cache i.wishes.items i.aborted i.ledger in
+    let b = state_of i.problem i.search.replies i.cache i.wishes.items i.aborted i.ledger in
     let running : i.ledger.stopped ≡ false = sym c.stopped.ensures ∙ c.if-not-stopped.true in
     record {
       rules_same = c.self.invariant.rules_same;
@@ -18,12 +18,12 @@ invariant_of-self g c =
 pub returns-then-not-stopped : goal.returns-then-not-stopped
 returns-then-not-stopped g c =
     let i = c.self.inside in
-    let b = state_of i.problem (g.P.Search.replies_of i.search) i.cache i.wishes.items i.aborted i.ledger in
+    let b = state_of i.problem i.search.replies i.cache i.wishes.items i.aborted i.ledger in
     let running : i.ledger.stopped ≡ false = sym c.stopped.ensures ∙ c.if-not-stopped.true in
     rw (c.stop.ensures, ← c.self.view_is) ((step-stop g.P.Search.shown g.P.Search.plain g.S.Spawner.truth b running c.self.invariant.board).plain_is ∙ stop-running b running)
 
 pub returns-else-not-stopped : goal.returns-else-not-stopped
 returns-else-not-stopped g c =
     let i = c.self.inside in
-    let b = state_of i.problem (g.P.Search.replies_of i.search) i.cache i.wishes.items i.aborted i.ledger in
+    let b = state_of i.problem i.search.replies i.cache i.wishes.items i.aborted i.ledger in
     rw (← c.self.view_is) (stop-stopped b (sym c.stopped.ensures ∙ c.if-not-stopped.false))

@@ -1,16 +1,19 @@
-use Rattle.std.proofs.Common.{◌≡◌, sym, ap, ◌∙◌, arith}
+use Rattle.std.proofs.Common.{refl, ap, ◌∙◌, subst}
+use Rattle.std.proofs.lemmas.Result.{IfOk-weaker}
+use Rattle.objective.specs.Bounds.{AreInRange}
 use Rattle.run_cache.specs.Caches.{known_in}
-use Rattle.capping.specs.Verdicts.{verdict_of}
-use Rattle.predictor.specs.Wishes.{wishes_of}
-use Rattle.predictor.proofs.PresentWishes.{with_no_room}
+use Rattle.ils_face.specs.Rules.{AreRules}
+use Rattle.ils_face.specs.Views.{AreFitting}
+use Rattle.predictor.specs.Foresights.{SearchState}
+use Rattle.predictor.proofs.WishFacts.{wishes-are}
 use Rattle.predictor.proofs.foresight.Foresight.wishes.Goals as goal
 
-pub returns-then-k-eq0-clause-value : goal.returns-then-k-eq0-clause-value
-returns-then-k-eq0-clause-value g c =
-    let shown = g.P.Search.shown c.args.self.now.rules in
-    let replies = c.args.self.now.replies in
-    let known = known_in c.args.cache.now in
-    let limits = c.args.cache.now.limits in
-    let none : c.args.k ≡ 0 = omega arith in
-    c.new.ensures.items ∙ sym (ap (wishes_of shown limits known replies) none
-    ∙ with_no_room shown limits known replies (shown replies).ask (verdict_of limits known (shown replies).ask))
+pub returns-clause-each : goal.returns-clause-each
+returns-clause-each g c =
+    let s = c.args.self.now in
+    let ruled : AreRules s.rules = subst (λ (x : SearchState). AreRules x.rules) c.self.view_is c.ask.ensures.ruled in
+    let fitting : AreFitting (g.P.Search.shown s.rules) s.replies =
+        subst (λ (x : SearchState). AreFitting (g.P.Search.shown x.rules) x.replies) c.self.view_is c.ask.ensures.fitting in
+    let ranged = subst (λ b. AreInRange b.cutoff b.floor) (c.behind-cache.view_is ∙ c.limits.ensures) c.behind-cache.invariant in
+    IfOk-weaker c.look.result _ _ (λ w made. (wishes-are s.rules g.P.Search.shown c.args.cache.now.limits (known_in c.args.cache.now) s.replies
+    (g.P.Search.shown s.rules s.replies).ask c.args.k w.items g.met.P.Search.steady ranged ruled fitting refl made).each) c.look.ensures.value
