@@ -11,7 +11,7 @@ use run_cache::{Cache, Known};
 use std::alloc::Global;
 
 /// An ask of two places, in full or up to a bound.
-fn ask_of(alloc: Global, bound: Option<u64>) -> Result<Ask, Memory>
+pub(crate) fn ask_of(alloc: Global, bound: Option<u64>) -> Result<Ask, Memory>
     ensures { IfOk result (λ ask. place_count ask ≡ 2) }
 {
     let config = cell(alloc, 0, 1)?.config;
@@ -26,7 +26,7 @@ fn ask_of(alloc: Global, bound: Option<u64>) -> Result<Ask, Memory>
 }
 
 /// Whether two verdicts are the same.
-fn is_same(left: &Verdict, right: &Verdict) -> bool {
+pub(crate) fn is_same(left: &Verdict, right: &Verdict) -> bool {
     match (left, right) {
         (Verdict::Reply(Reply::Exact(x)), Verdict::Reply(Reply::Exact(y))) => x == y,
         (Verdict::Reply(Reply::Exceeds), Verdict::Reply(Reply::Exceeds)) => true,

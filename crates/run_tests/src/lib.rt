@@ -9,4 +9,6 @@ mod checks;
 #[cfg(test)]
 mod decisions;
 #[cfg(test)]
+mod fronts;
+#[cfg(test)]
 mod lessons;
