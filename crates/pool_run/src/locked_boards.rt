@@ -1,7 +1,6 @@
 //! A board beside other seats. It is locked for single steps alone, never while a child is started,
 //! looked at or killed.
 ghost use Rattle.std.specs.Prelude.{◌≡◌, IsTrue, None, Some};
-ghost use Rattle.pool_run.specs.Works.{SeatTurned};
 
 use crate::held_boards::HeldBoard;
 use crate::runs::shown_answer;
@@ -9,31 +8,16 @@ use crate::seat::Seat;
 use crate::turns::{Next, give_up, next_turn};
 use ils_face::Search;
 use outside::Spawner;
-use pool_core::{Board, Standing, Ticket};
+use pool_core::{Board, Kind, Standing, Ticket};
 use std::sync::{Condvar, Mutex, Wait};
 
-/// A board behind a lock. Each step that changes it rings the bell, which seats without a run wait for.
+/// A board behind a lock, and the bell that seats without a run wait for. A ticket wakes one of them, since it
+/// may not be the only one, and an end or a stop wakes them all. Other steps wake nobody: the seat that made
+/// them takes the next turn itself.
 #[derive(Drop)]
 pub(crate) struct LockedBoard<'a, P: Search, S: Spawner> {
     pub(crate) board: &'a Mutex<Board<P, S>>,
     pub(crate) bell: &'a Condvar,
-}
-
-/// The next turn of a seat. The bell is rung where it changed the board. It may wait.
-fn turn_and_ring<R: Wait, P: Search, S: Spawner>(
-    rt: &R,
-    board: &mut Board<P, S>,
-    bell: &Condvar,
-    seat: &mut Seat<S>,
-) -> Next
-    ensures { SeatTurned result seat.old seat.new }
-{
-    let events = board.journal().len();
-    let next = next_turn(rt, board, seat);
-    if board.journal().len() != events {
-        bell.notify_all();
-    }
-    next
 }
 
 /// Records the answer of a child that has ended, where its ticket isn't marked; else it isn't read.
@@ -55,9 +39,17 @@ impl<'a, P: Search, S: Spawner> HeldBoard<P, S> for LockedBoard<'a, P, S> {
 
     fn next_turn<R: Wait>(&mut self, rt: &R, seat: &mut Seat<S>) -> Next {
         let mut locked = self.board.lock(rt);
-        let next = turn_and_ring(rt, &mut *locked, self.bell, seat);
-        if next == Next::Idle {
-            drop(self.bell.wait(rt, locked));
+        let next = next_turn(rt, &mut *locked, seat);
+        match next {
+            Next::Idle => drop(self.bell.wait(rt, locked)),
+            Next::Run => {
+                drop(locked);
+                self.bell.notify_one();
+            }
+            Next::Over | Next::Short => {
+                drop(locked);
+                self.bell.notify_all();
+            }
         }
         next
     }
@@ -67,21 +59,19 @@ impl<'a, P: Search, S: Spawner> HeldBoard<P, S> for LockedBoard<'a, P, S> {
     }
 
     fn tell_answer<R: Wait>(&mut self, rt: &R, spawner: &S, ticket: &Ticket) {
-        let mut locked = self.board.lock(rt);
-        record_or_end(&mut *locked, spawner, ticket);
-        drop(locked);
-        self.bell.notify_all();
+        record_or_end(&mut *self.board.lock(rt), spawner, ticket);
     }
 
     fn tell_lost<R: Wait>(&mut self, rt: &R, ticket: &Ticket) {
         let mut locked = self.board.lock(rt);
         give_up(&mut *locked, ticket);
         drop(locked);
-        self.bell.notify_all();
+        if ticket.kind == Kind::Asked {
+            self.bell.notify_all();
+        }
     }
 
     fn tell_killed<R: Wait>(&mut self, rt: &R, ticket: &Ticket) {
         self.board.lock(rt).killed(ticket);
-        self.bell.notify_all();
     }
 }

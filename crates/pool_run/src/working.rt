@@ -13,8 +13,8 @@ use std::sync::{Condvar, Mutex, Wait};
 use wrapper_lines::Program;
 
 /// Works on a board beside other seats, until its search is at its end or the board is stopped: what the
-/// search needs now is run, or else what it may need soon. Each step that changes the board rings the
-/// bell, which seats without a run wait for. It may wait.
+/// search needs now is run, or else what it may need soon. Seats without a run wait for the bell; a ticket
+/// rings it for one of them, an end or a stop for all. It may wait.
 ///
 /// A run that was asked for and can't be made, and want of memory, stop the board; the seat keeps which
 /// it was. A run ahead that can't be made is lost, and nothing else.
