@@ -54,7 +54,11 @@ fn add_needed(
 
 /// Adds the runs that a turn finds at an ask, and gives the reply that the search is followed
 /// by, unless the turn is the last.
-pub(crate) fn add_turn(choice: &mut Choice, cache: &Cache, ask: &Ask) -> Result<Option<Reply>, Memory>
+pub(crate) fn add_turn(
+    choice: &mut Choice,
+    cache: &Cache,
+    ask: &Ask,
+) -> Result<Option<Reply>, Memory>
     requires { place_count ask.now ≤ max_runs }
     ensures runs { let turn = turn_by cache.now ask.now in
         OnOk result (choice.new ≡ with_runs (known_in cache.now) choice.old turn.runs) }

@@ -15,7 +15,7 @@ returns-clause-each g c =
     let replies = s.replies ++ c.args.reply ∷ [] in
     let ruled : AreRules s.rules = subst (λ (x : SearchState). AreRules x.rules) c.self.view_is c.ask.ensures.ruled in
     let fitting : AreFitting (g.P.Search.shown s.rules) s.replies =
-        subst (λ (x : SearchState). AreFitting (g.P.Search.shown x.rules) x.replies) c.self.view_is c.ask.ensures.fitting in
+    subst (λ (x : SearchState). AreFitting (g.P.Search.shown x.rules) x.replies) c.self.view_is c.ask.ensures.fitting in
     let ranged = subst (λ b. AreInRange b.cutoff b.floor) (c.behind-cache.view_is ∙ c.limits.ensures) c.behind-cache.invariant in
     let more = fitting-more (g.P.Search.shown s.rules) s.replies c.args.reply fitting c.requires in
     IfOk-weaker c.go_on.result _ _ (λ w made. (wishes-are s.rules g.P.Search.shown c.args.cache.now.limits (known_in c.args.cache.now) replies

@@ -13,7 +13,7 @@ returns-clause-each g c =
     let s = c.args.self.now in
     let ruled : AreRules s.rules = subst (λ (x : SearchState). AreRules x.rules) c.self.view_is c.ask.ensures.ruled in
     let fitting : AreFitting (g.P.Search.shown s.rules) s.replies =
-        subst (λ (x : SearchState). AreFitting (g.P.Search.shown x.rules) x.replies) c.self.view_is c.ask.ensures.fitting in
+    subst (λ (x : SearchState). AreFitting (g.P.Search.shown x.rules) x.replies) c.self.view_is c.ask.ensures.fitting in
     let ranged = subst (λ b. AreInRange b.cutoff b.floor) (c.behind-cache.view_is ∙ c.limits.ensures) c.behind-cache.invariant in
     IfOk-weaker c.look.result _ _ (λ w made. (wishes-are s.rules g.P.Search.shown c.args.cache.now.limits (known_in c.args.cache.now) s.replies
     (g.P.Search.shown s.rules s.replies).ask c.args.k w.items g.met.P.Search.steady ranged ruled fitting refl made).each) c.look.ensures.value
