@@ -211,8 +211,8 @@ impl<P: Search> Foresight<P> {
         Ok(Outlook { look_ahead, wishes })
     }
 
-    /// The same by what was looked ahead before, where that began with this reply and still holds; else
-    /// it is let go.
+    /// The same by what was looked ahead before, where that goes by this reply and still holds; else it
+    /// is let go.
     fn kept_after(
         &mut self,
         alloc: Global,
@@ -220,6 +220,7 @@ impl<P: Search> Foresight<P> {
         reply: Reply,
         k: u32,
     ) -> Result<Option<Outlook<P>>, Memory>
+        requires { Fits (P.shown self.old.rules self.old.replies).ask reply }
         ensures same { self.new ≡ self.old }
         ensures begins { IfOk result (λ found. IfSome found (λ o. BeginsAt (after_reply self.old reply) o.look_ahead)) }
         ensures value { let shown = P.shown self.old.rules in
@@ -230,7 +231,7 @@ impl<P: Search> Foresight<P> {
         let Some(mut look_ahead) = self.look_ahead.take() else {
             return Ok(None);
         };
-        if !look_ahead.begins_with(reply) {
+        if !look_ahead.go_by(0, reply)? {
             return Ok(None);
         }
         look_ahead.begin_later();

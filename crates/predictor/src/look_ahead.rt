@@ -87,7 +87,7 @@ impl<P: Search> LookAhead<P> {
 
     /// Goes by a reply after so many steps, and tells whether it does: it has gone by another one where
     /// it has come further.
-    fn go_by(&mut self, n: usize, reply: Reply) -> Result<bool, Memory>
+    pub(crate) fn go_by(&mut self, n: usize, reply: Reply) -> Result<bool, Memory>
         requires within { n ≤ length self.old.steps }
         requires fits { Fits (P.shown self.old.rules (after self.old n)).ask reply }
         ensures on { GoesOnFrom self.old self.new }
@@ -211,17 +211,6 @@ impl<P: Search> LookAhead<P> {
         match self.wishes(alloc, cache, k)? {
             Some(wishes) => Ok(wishes),
             None => unreachable!(),
-        }
-    }
-
-    /// Whether the first step is by this reply.
-    pub(crate) fn begins_with(&self, reply: Reply) -> bool
-        ensures some { result ≡ true → 0 < length self.now.steps }
-        ensures first { result ≡ true → after self.now 1 ≡ after self.now 0 ++ reply ∷ [] }
-    {
-        match self.steps.first() {
-            Some(step) => step.reply == reply,
-            None => false,
         }
     }
 
