@@ -173,33 +173,17 @@ fn spawn<R: Processes + AllocGlobal>(
     command.spawn(rt)
 }
 
-/// Starts a child whose output and errors go to these files.
-fn launch_into<R: Processes + AllocGlobal>(
-    rt: &R,
-    dir: &str,
-    words: &[Text],
-    output: File,
-    errors: &File,
-) -> io::Result<Running<R::Started>> {
-    let kept = errors.try_clone()?;
-    let child = spawn(rt, dir, words, &output, errors)?;
-    Ok(Running {
-        child,
-        output,
-        errors: kept,
-    })
-}
-
-/// Starts a child with a new file for its output.
+/// Starts a child with a new file for its output, and gives both.
 fn launch<R: Files<File = File> + Processes + AllocGlobal>(
     rt: &R,
     names: &FileNames,
     dir: &str,
     words: &[Text],
     errors: &File,
-) -> io::Result<Running<R::Started>> {
+) -> io::Result<(Child<R::Started>, File)> {
     let output = new_file(rt, names.process, names.output.as_str())?;
-    launch_into(rt, dir, words, output, errors)
+    let child = spawn(rt, dir, words, &output, errors)?;
+    Ok((child, output))
 }
 
 /// Writes which program couldn't be started, in which folder, and what the system says of it.
@@ -224,18 +208,25 @@ fn launch_or_write_why<R: Files<File = File> + Processes + AllocGlobal>(
     words: &[Text],
 ) -> io::Result<Running<R::Started>> {
     let errors = new_file(rt, names.process, names.errors.as_str())?;
-    let running = launch(rt, names, dir, words, &errors);
-    if let Err(error) = &running {
-        write_why(&errors, dir, words, error);
+    match launch(rt, names, dir, words, &errors) {
+        Ok((child, output)) => Ok(Running {
+            child,
+            output,
+            errors,
+        }),
+        Err(error) => {
+            write_why(&errors, dir, words, &error);
+            Err(error)
+        }
     }
-    running
 }
 
-/// Fills the room with the last bytes of a file, and cuts what is left over. Takes no memory.
+/// Fills the room with the last bytes of a file. Takes no memory where the room for them was made.
 fn read_last(file: &File, room: &mut Vec<u8>) -> io::Result<()> {
     let length = file.metadata()?.len();
-    let skipped = length.saturating_sub(room.len() as u64);
-    room.truncate((length - skipped) as usize);
+    let skipped = length.saturating_sub(ROOM as u64);
+    room.clear();
+    room.resize((length - skipped) as usize, 0u8)?;
     file.read_exact_at(room.as_mut_slice(), skipped)
 }
 
@@ -277,7 +268,8 @@ impl<'a, R: Files<File = File> + Processes + Clock + AllocGlobal> ProcessSeat<'a
         ensures runs { self.new.runs ≡ self.old.runs }
         ensures faults { self.new.faults ≡ self.old.faults }
     {
-        self.output.resize(ROOM, 0u8)?;
+        self.output.clear();
+        self.output.reserve(ROOM)?;
         launch_or_write_why(self.rt, &self.names, dir, words)
     }
 
