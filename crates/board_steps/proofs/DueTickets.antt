@@ -247,8 +247,8 @@ module _ (procedure : Rules → Table → Run) (truth : Option (Key → Outcome)
       let T = table_of truth b.problem in
       let asks = (quiet_by procedure truth b.problem).asks in
       let taken : IsDueTake limits T asks (take_event t) = All-contains (IsDueTake limits T asks) b.journal (take_event t) d.due among in
-      let is : IsDueTake limits T asks (Take t.number Asked t.cell t.run.cutoff t.place) =
-      subst (λ kind. IsDueTake limits T asks (Take t.number kind t.cell t.run.cutoff t.place)) asked taken in
+      let is : IsDueTake limits T asks (Take Asked t.number t.cell t.run.cutoff t.place) =
+      subst (λ kind. IsDueTake limits T asks (Take kind t.number t.cell t.run.cutoff t.place)) asked taken in
       is answer
 
   -- the place of a ticket that was taken isn't above the number of replies

@@ -71,10 +71,10 @@ of-live P live l found all =
 none-takes : (number : ℕ) (journal : List Event) → All (λ m. m < number) (numbers_taken journal) → filter (takes number) journal ≡ []
 none-takes number [] below = refl
 none-takes number (Advance ∷ journal) below = none-takes number journal below
-none-takes number (Take taken kind cell cutoff asked_at ∷ journal) below =
+none-takes number (Take kind taken cell cutoff asked_at ∷ journal) below =
     let P : ℕ → Type 0 = λ m. m < number in
     let other = lower-differs taken number (All-head P taken (numbers_taken journal) below) in
-    ap (λ b. if b then Take taken kind cell cutoff asked_at ∷ filter (takes number) journal else filter (takes number) journal) other
+    ap (λ b. if b then Take kind taken cell cutoff asked_at ∷ filter (takes number) journal else filter (takes number) journal) other
     ∙ none-takes number journal (All-tail P taken (numbers_taken journal) below)
 none-takes number (Record ended answer ∷ journal) below = none-takes number journal below
 none-takes number (Lost ended ∷ journal) below = none-takes number journal below

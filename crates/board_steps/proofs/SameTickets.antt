@@ -1,5 +1,5 @@
 -- The tests of sameness are true exactly of equal things.
-use Rattle.std.proofs.Common.{◌≡◌, true, false, refl, ap}
+use Rattle.std.proofs.Common.{◌≡◌, true, false, List, refl, ap}
 use Rattle.std.specs.Bool.{Decides}
 use Rattle.std.specs.Cmp.Lexicographic.{pointwise}
 use Rattle.std.proofs.lemmas.Bool.Decides.{Decides-and, Decides-eqb}
@@ -26,10 +26,18 @@ same_setting-Decides one other =
     decides_also (Decides-and _ _ (bytes_eq-Decides one.name other.name) (bytes_eq-Decides one.value other.value))
     (λ p i. record { name = p.0 i; value = p.1 i }) (λ same. (ap (λ s. s.name) same, ap (λ s. s.value) same))
 
+-- of lists of settings
+same_settings-Decides : (one other : List Setting) → Decides (pointwise same_setting one other) (one ≡ other)
+same_settings-Decides one other = slice_eq-Decides same_setting-Decides one other (pointwise same_setting one other) refl
+
+-- lists of settings that are equal are the same
+pub same_settings : (one other : List Setting) → pointwise same_setting one other ≡ true → one ≡ other
+same_settings one other = (same_settings-Decides one other).0
+
 -- of keys
 pub same_key-Decides : (one other : Key) → Decides (same_key one other) (one ≡ other)
 same_key-Decides one other =
-    let settings = slice_eq-Decides same_setting-Decides one.settings other.settings (pointwise same_setting one.settings other.settings) refl in
+    let settings = same_settings-Decides one.settings other.settings in
     let seed = Decides-and _ _ (Decides-eqb one.seed other.seed) settings in
     let specifics = Decides-and _ _ (bytes_eq-Decides one.specifics other.specifics) seed in
     let instance = Decides-and _ _ (bytes_eq-Decides one.instance other.instance) specifics in

@@ -21,7 +21,7 @@ pub record RecordedAnswer : Type 0 where
 
 -- the run that an event takes a ticket for
 abbrev pub taken : Event → Option TakenRun
-taken (Take number kind cell cutoff asked_at) =
+taken (Take kind number cell cutoff asked_at) =
     Some (record { number = number; kind = kind; cell = cell; cutoff = cutoff.0; asked_at = asked_at })
 taken e = None
 

@@ -38,7 +38,7 @@ pub record HasRoom (journal_room more_cells : ℕ) (live : List LiveTicket) (nex
 
 -- the event that a ticket was taken
 abbrev pub take_event : Ticket → Event
-take_event t = Take t.number t.kind t.cell t.run.cutoff t.place
+take_event t = Take t.kind t.number t.cell t.run.cutoff t.place
 
 -- a ticket that isn't marked
 abbrev pub unmarked : Ticket → LiveTicket

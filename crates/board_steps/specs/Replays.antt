@@ -15,7 +15,7 @@ module _ (shown : Rules → List Reply → View) where
   -- a board after an event, which is told by its number, and a record's by its answer too
   unfoldable pub after_event : PlainBoard → Event → PlainBoard
   after_event b Advance = after_advance shown b
-  after_event b (Take number kind cell cutoff asked_at) = after_take shown b
+  after_event b (Take kind number cell cutoff asked_at) = after_take shown b
   after_event b (Record number answer) = with_end (with_answer b answer) b (live_at b.live number)
   after_event b (Lost number) = with_end (with_loss b) b (live_at b.live number)
   after_event b (Mark number) = with_mark b number

@@ -10,10 +10,10 @@ pub enum Event {
     Advance,
     /// A ticket was taken.
     Take {
-        /// Its number, from 1.
-        number: u64,
         /// Why it was taken.
         kind: Kind,
+        /// Its number, from 1.
+        number: u64,
         /// The cell that is run.
         cell: Cell,
         /// The cutoff of the run.

@@ -15,10 +15,13 @@ use crate::tickets::{Kind, LiveTicket, Ticket};
 use crate::unwanted_runs::{Needed, is_unwanted_beside};
 use indexmap::IndexSet;
 use objective::Memory;
+use param_space::Config;
+use plain_text::Items;
 use predictor::Wish;
 use run_cache::Cell;
 use std::alloc::Global;
 use std::marker::Model;
+use wrapper_lines::Setting;
 
 /// The live tickets of a board, the cells whose run ahead was lost, and the journal.
 ///
@@ -31,6 +34,8 @@ pub struct Ledger {
     next: u64,
     stopped: bool,
     journal: Vec<Event>,
+    /// The settings of the last ticket, for the next one of its configuration.
+    settings: Option<Items<Setting>>,
 }
 
 impl Model for Ledger {
@@ -210,6 +215,7 @@ impl Ledger {
             next: 1,
             stopped: false,
             journal,
+            settings: None,
         })
     }
 
@@ -266,6 +272,16 @@ impl Ledger {
         }
     }
 
+    /// The settings of a live ticket of the configuration, or else of the last ticket.
+    pub fn settings_like(&self, config: &Config) -> Option<&Items<Setting>> {
+        for l in &self.live {
+            if l.ticket.cell.config == *config {
+                return Some(&l.ticket.run.key.settings);
+            }
+        }
+        self.settings.as_ref()
+    }
+
     /// Makes room for one event beside those that are kept.
     #[tactic(auto, unfolding(crate::specs::Ledgers::events_kept))]
     pub fn make_room(&mut self) -> Result<(), Memory>
@@ -311,6 +327,7 @@ impl Ledger {
         self.journal.reserve(kept + 3)?;
         self.lost_ahead.reserve(self.live.len() + 1)?;
         self.live.reserve(1)?;
+        let settings = ticket.run.key.settings.copy()?;
         let (number, kind, cutoff, asked_at) = (
             ticket.number,
             ticket.kind,
@@ -329,6 +346,7 @@ impl Ledger {
             marked: false,
         });
         self.next += 1;
+        self.settings = Some(settings);
         Ok(())
     }
 

@@ -8,7 +8,7 @@ use ils_face::Rules;
 use instance_pairs::Pairs;
 use objective::Memory;
 use param_space::{Config, Space};
-use plain_text::{Items, Text};
+use plain_text::Items;
 use run_cache::Cell;
 use std::alloc::Global;
 use std::marker::Model;
@@ -71,18 +71,32 @@ fn settings_of(alloc: Global, space: &Space, config: &Config) -> Result<Vec<Sett
     ensures { IfOk result (λ v. v.items ≡ map ProblemRuns.setting_from (Settings.active_values space.now config.now)) }
 {
     let active = space.active_values(config)?;
-    let mut settings = Vec::new(alloc);
+    let mut settings = Vec::with_capacity(alloc, active.len())?;
     for named in &active {
         settings.push(Setting {
-            name: Text::of(alloc, named.name)?,
-            value: Text::of(alloc, named.value)?,
+            name: named.name.copy()?,
+            value: named.value.copy()?,
         })?;
     }
     Ok(settings)
 }
 
+/// A list of these settings: the earlier one where it has the same.
+#[tactic(auto, using(crate::proofs::SameTickets::same_settings))]
+fn shared_list(
+    made: Vec<Setting>,
+    earlier: Option<&Items<Setting>>,
+) -> Result<Items<Setting>, Memory>
+    ensures { IfOk result (λ list. list ≡ made.items) }
+{
+    match earlier {
+        Some(list) if list.as_slice() == made.as_slice() => list.copy(),
+        _ => Items::new(made),
+    }
+}
+
 impl Problem {
-    /// The same problem.
+    /// The same problem, shared. Takes no memory.
     pub fn copy(&self) -> Result<Problem, Memory>
         ensures { IfOk result (λ p. p ≡ self.now) }
     {
@@ -92,21 +106,38 @@ impl Problem {
         })
     }
 
-    /// What a cell's run is of: the pair of its place, and its settings.
-    #[tactic(auto, unfolding(crate::specs::ProblemRuns::key_of))]
+    /// What a cell's run is of: the pair of its place, and its settings. Its texts are those of
+    /// the problem.
     pub fn key_of(&self, alloc: Global, cell: &Cell) -> Result<Key, Memory>
         requires belongs { Belongs self.now.rules.space.params cell.now.config }
         requires first { 1 ≤ cell.now.place }
         requires last { cell.now.place ≤ self.now.rules.max_runs }
         ensures { IfOk result (λ k. k ≡ ProblemRuns.key_of self.now cell.now) }
     {
+        self.key_like(alloc, cell, None)
+    }
+
+    /// What a cell's run is of, as `key_of` tells. It shares the list of the earlier settings
+    /// where its own are the same.
+    #[tactic(auto, unfolding(crate::specs::ProblemRuns::key_of))]
+    pub fn key_like(
+        &self,
+        alloc: Global,
+        cell: &Cell,
+        earlier: Option<&Items<Setting>>,
+    ) -> Result<Key, Memory>
+        requires belongs { Belongs self.now.rules.space.params cell.now.config }
+        requires first { 1 ≤ cell.now.place }
+        requires last { cell.now.place ≤ self.now.rules.max_runs }
+        ensures { IfOk result (λ k. k ≡ ProblemRuns.key_of self.now cell.now) }
+    {
         let settings = settings_of(alloc, &self.rules.space, &cell.config)?;
-        let pair = self.pairs.pair(cell.place);
+        let instance = self.pairs.instance(cell.place);
         Ok(Key {
-            instance: Text::of(alloc, pair.instance)?,
-            specifics: Text::of(alloc, pair.specifics)?,
-            seed: pair.seed,
-            settings: Items::new(settings),
+            instance: instance.name.copy()?,
+            specifics: instance.specifics.copy()?,
+            seed: self.pairs.pair(cell.place).seed,
+            settings: shared_list(settings, earlier)?,
         })
     }
 }

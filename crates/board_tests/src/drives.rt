@@ -32,7 +32,7 @@ fn opened<P: Search>(alloc: Global, setup: &Setup<'_>) -> Result<GridBoard<P>, M
 fn number(alloc: Global, number: u32) -> Result<Items<u32>, Memory> {
     let mut numbers = Vec::new(alloc);
     numbers.push(number)?;
-    Ok(Items::new(numbers))
+    Items::new(numbers)
 }
 
 /// A seat whose start and look with these numbers fail.
@@ -41,10 +41,10 @@ fn seat(alloc: Global, bad_start: u32, bad_look: u32) -> Result<Seat<TableSeat<G
 {
     let (bad_starts, bad_polls) = (number(alloc, bad_start)?, number(alloc, bad_look)?);
     let script = Script {
-        pending: Items::new(Vec::new(alloc)),
+        pending: Items::new(Vec::new(alloc))?,
         bad_starts,
         bad_polls,
-        stuck: Items::new(Vec::new(alloc)),
+        stuck: Items::new(Vec::new(alloc))?,
     };
     Ok(Seat::new(alloc, TableSeat::new(alloc, script)?))
 }
@@ -54,7 +54,7 @@ fn program(alloc: Global) -> Result<Program, Memory> {
     let mut words = Vec::new(alloc);
     words.push(Text::of(alloc, "w")?)?;
     Ok(Program {
-        words: Items::new(words),
+        words: Items::new(words)?,
         dir: Text::of(alloc, "")?,
         cutoff_length: 7,
     })

@@ -3,7 +3,7 @@ ghost use Rattle.std.specs.Prelude.{◌≡◌, IfOk};
 ghost use Rattle.instance_pairs.specs.Files;
 
 use objective::Memory;
-use plain_text::{Copied, Text, after_word, end_trimmed, first_word, front_trimmed};
+use plain_text::{Text, after_word, end_trimmed, first_word, front_trimmed};
 use std::alloc::Global;
 
 /// An instance that configurations are run on.
@@ -24,12 +24,6 @@ impl Instance {
             name: self.name.copy()?,
             specifics: self.specifics.copy()?,
         })
-    }
-}
-
-impl Copied for Instance {
-    fn copied(&self) -> Result<Instance, Memory> {
-        self.copy()
     }
 }
 

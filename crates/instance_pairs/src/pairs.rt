@@ -134,12 +134,12 @@ impl Pairs {
         let max_runs = max_runs_for(deterministic, count, wanted);
         let spots = spots_of(alloc, order, seed, count, max_runs)?;
         Ok(Pairs {
-            instances: Items::new(instances),
+            instances: Items::new(instances)?,
             seed,
             deterministic,
             order,
             max_runs,
-            spots: Items::new(spots),
+            spots: Items::new(spots)?,
         })
     }
 
@@ -181,18 +181,27 @@ impl Pairs {
         }
     }
 
-    /// The same pairs.
+    /// The instance of a place, from 1. Takes no memory.
+    pub fn instance(&self, place: u32) -> &Instance
+        requires first { 1 ≤ place }
+        requires last { place ≤ self.now.max_runs }
+        ensures { result.now ≡ (pair_at self.now place).instance }
+    {
+        let spot = self.spot(place);
+        &self.instances.as_slice()[spot.instance as usize]
+    }
+
+    /// The same pairs, shared. Takes no memory.
     pub fn copy(&self) -> Result<Pairs, Memory>
         ensures { IfOk result (λ p. p ≡ self.now) }
     {
-        let spots = self.spots.as_slice();
         Ok(Pairs {
             instances: self.instances.copy()?,
             seed: self.seed,
             deterministic: self.deterministic,
             order: self.order,
             max_runs: self.max_runs,
-            spots: Items::new(spots.to_vec(*self.spots.allocator())?),
+            spots: self.spots.copy()?,
         })
     }
 }

@@ -13,7 +13,7 @@ use std::alloc::Global;
 fn result_text(alloc: Global, word: &str, time: &str) -> Result<Text, Memory>
     ensures { IfOk result (λ t. t ≡ result_line word.now time.now) }
 {
-    Ok(Text::new(format!(in alloc; "Result for ParamILS: {word}, {time}, 0, 0, 0\n")?))
+    Text::new(format!(in alloc; "Result for ParamILS: {word}, {time}, 0, 0, 0\n")?)
 }
 
 /// The result line of a run that was solved after this time.

@@ -1,9 +1,10 @@
 //! The child of a seat in memory.
-ghost use Rattle.std.specs.Prelude.{◌≡◌, ◌≤◌, true, false, IsTrue};
+ghost use Rattle.std.specs.Prelude.{◌≡◌, ◌≤◌, true, false, IsTrue, IfOk};
 ghost use Rattle.outside.specs.MemoryChildren.{first_child, child_after_start, child_after_look, child_after_kill, left_by};
 
 use crate::faults::{Fail, Poll};
 use crate::last_runs::LastRuns;
+use objective::Memory;
 use plain_text::Text;
 use std::alloc::Global;
 use std::marker::Model;
@@ -13,7 +14,7 @@ use wrapper_lines::Run;
 const KILLED_LINE: &str = "Result for ParamILS: TIMEOUT, 0, 0, 0, 0\n";
 
 /// The child of a seat in memory: its run, what it writes, whether it runs, has ended or was
-/// killed, and how many starts and looks have failed. No call takes memory.
+/// killed, and how many starts and looks have failed. Only `new` takes memory.
 ///
 /// Its type keeps that no output is held of a killed child.
 #[derive(Drop)]
@@ -51,17 +52,17 @@ impl Model for MemoryChild {
 
 impl MemoryChild {
     /// No child was started yet.
-    pub fn new(alloc: Global) -> MemoryChild
-        ensures { result ≡ first_child }
+    pub fn new(alloc: Global) -> Result<MemoryChild, Memory>
+        ensures { IfOk result (λ c. c ≡ first_child) }
     {
-        MemoryChild {
+        Ok(MemoryChild {
             runs: LastRuns::new(),
-            output: Text::new(String::new(alloc)),
+            output: Text::new(String::new(alloc))?,
             is_idle: true,
             is_held: false,
             is_killed: false,
             faults: 0,
-        }
+        })
     }
 
     /// No child runs, and no output is held.

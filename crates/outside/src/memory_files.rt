@@ -70,7 +70,7 @@ impl MemoryFiles {
             OnOk result ((other : List ℕ) → bytes_of self.new.files other ≡ had other) }
     {
         let name = Text::of(self.alloc, name)?;
-        let bytes = Items::new(Vec::from_slice(self.alloc, bytes)?);
+        let bytes = Items::new(Vec::from_slice(self.alloc, bytes)?)?;
         self.files.insert(0, File { name, bytes })?;
         Ok(())
     }

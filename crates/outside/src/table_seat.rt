@@ -52,7 +52,7 @@ impl<T: Table> TableSeat<T> {
             of: PhantomData,
             alloc,
             course: Course::new(script),
-            child: MemoryChild::new(alloc),
+            child: MemoryChild::new(alloc)?,
             started: Vec::new(alloc),
             folders: Vec::new(alloc),
         })
@@ -118,7 +118,7 @@ impl<T: Table> Spawner for TableSeat<T> {
         self.child.clear();
         self.started.reserve(1)?;
         self.folders.reserve(1)?;
-        let words = Items::new(copy_texts(self.alloc, words)?);
+        let words = Items::new(copy_texts(self.alloc, words)?)?;
         let folder = Text::of(self.alloc, dir)?;
         let output = output_of(self.alloc, T::outcome(&run.key), run.cutoff)?;
         let copy = run.copy()?;

@@ -114,7 +114,7 @@ fn clause_of(alloc: Global, tokens: &[&str]) -> Result<Option<Statement>, Memory
     };
     match &rest[list.taken..] {
         [] => Ok(Some(Statement::Clause {
-            picks: Items::new(list.picks),
+            picks: Items::new(list.picks)?,
         })),
         [_, ..] => Ok(None),
     }
@@ -145,7 +145,7 @@ fn condition_of(alloc: Global, tokens: &[&str]) -> Result<Option<Statement>, Mem
         [] => Ok(Some(Statement::Condition {
             child: Text::of(alloc, child)?,
             parent: Text::of(alloc, parent)?,
-            values: Items::new(list.values),
+            values: Items::new(list.values)?,
         })),
         [_, ..] => Ok(None),
     }
@@ -190,7 +190,7 @@ fn parameter_of(alloc: Global, tokens: &[&str]) -> Result<Option<Statement>, Mem
     };
     Ok(Some(Statement::Parameter {
         name: Text::of(alloc, name)?,
-        values: Items::new(list.values),
+        values: Items::new(list.values)?,
         default: Text::of(alloc, default)?,
     }))
 }

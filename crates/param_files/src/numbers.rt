@@ -100,7 +100,7 @@ pub(crate) fn numbered_condition(
     Ok(Condition {
         child,
         parent,
-        values: Items::new(numbers),
+        values: Items::new(numbers)?,
     })
 }
 
@@ -164,7 +164,7 @@ pub(crate) fn numbered_clause(
     }
     match pick_numbers(alloc, params, picks)? {
         Some(numbers) => Ok(Forbidden {
-            picks: Items::new(numbers),
+            picks: Items::new(numbers)?,
         }),
         None => Err(broken(line, SpaceWhat::UnknownValue)),
     }

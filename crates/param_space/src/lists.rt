@@ -4,7 +4,7 @@ ghost use Rattle.param_space.specs.Faults.{breach_of};
 ghost use Rattle.param_space.specs.declared.lists.SpaceFault.TheVariants.{Memory as NoMemory};
 
 use objective::Memory;
-use plain_text::{Copied, Items, Text};
+use plain_text::{Items, Text};
 use thiserror::Error;
 
 /// A parameter with its values. Values are numbered from 0.
@@ -31,12 +31,6 @@ impl Param {
     }
 }
 
-impl Copied for Param {
-    fn copied(&self) -> Result<Param, Memory> {
-        self.copy()
-    }
-}
-
 /// The child is active only where its parent is active and has a listed value.
 #[derive(Drop, PartialEq, Eq)]
 pub struct Condition {
@@ -53,18 +47,11 @@ impl Condition {
     pub fn copy(&self) -> Result<Condition, Memory>
         ensures { IfOk result (λ c. c ≡ self.now) }
     {
-        let values = self.values.as_slice();
         Ok(Condition {
             child: self.child,
             parent: self.parent,
-            values: Items::new(values.to_vec(*self.values.allocator())?),
+            values: self.values.copy()?,
         })
-    }
-}
-
-impl Copied for Condition {
-    fn copied(&self) -> Result<Condition, Memory> {
-        self.copy()
     }
 }
 
@@ -89,16 +76,9 @@ impl Forbidden {
     pub fn copy(&self) -> Result<Forbidden, Memory>
         ensures { IfOk result (λ f. f ≡ self.now) }
     {
-        let picks = self.picks.as_slice();
         Ok(Forbidden {
-            picks: Items::new(picks.to_vec(*self.picks.allocator())?),
+            picks: self.picks.copy()?,
         })
-    }
-}
-
-impl Copied for Forbidden {
-    fn copied(&self) -> Result<Forbidden, Memory> {
-        self.copy()
     }
 }
 

@@ -7,15 +7,16 @@ ghost use Rattle.param_space.specs.Settings.{name_and_value, with_setting, setti
 use crate::lists::Param;
 use crate::marks::Marks;
 use objective::Memory;
+use plain_text::Text;
 use std::alloc::Global;
 
 /// A parameter's name and its value.
-#[derive(Clone, Copy, Debug)]
+#[derive(Clone, Copy)]
 pub struct NamedValue<'a> {
     /// The name.
-    pub name: &'a str,
+    pub name: &'a Text,
     /// The value.
-    pub value: &'a str,
+    pub value: &'a Text,
 }
 
 /// Appends `name=value`, after a space where there is a text already, or a part of this
@@ -46,10 +47,9 @@ pub fn marked_values<'a>(
     let mut found = Vec::new(alloc);
     for (i, param) in params.iter().enumerate() {
         if active[i] {
-            let value = &param.values.as_slice()[usize::from(values[i])];
             found.push(NamedValue {
-                name: param.name.as_str(),
-                value: value.as_str(),
+                name: &param.name,
+                value: &param.values.as_slice()[usize::from(values[i])],
             })?;
         }
     }
@@ -62,7 +62,7 @@ pub fn text_of(alloc: Global, settings: &[NamedValue<'_>]) -> Result<Vec<u8>, Me
 {
     let mut out = Vec::new(alloc);
     for setting in settings {
-        push_setting(&mut out, setting.name, setting.value)?;
+        push_setting(&mut out, setting.name.as_str(), setting.value.as_str())?;
     }
     Ok(out)
 }

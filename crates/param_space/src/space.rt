@@ -106,10 +106,10 @@ impl Space {
             forbidden.as_slice(),
         )?;
         Ok(Space {
-            params: Items::new(params),
-            conditions: Items::new(conditions),
-            forbidden: Items::new(forbidden),
-            order: Items::new(order),
+            params: Items::new(params)?,
+            conditions: Items::new(conditions)?,
+            forbidden: Items::new(forbidden)?,
+            order: Items::new(order)?,
         })
     }
 
@@ -200,16 +200,15 @@ impl Space {
         !forbids_any(self.forbidden.as_slice(), config.values(), &active)
     }
 
-    /// The same space.
+    /// The same space, shared. Takes no memory.
     pub fn copy(&self) -> Result<Space, Memory>
         ensures { IfOk result (λ s. s ≡ self.now) }
     {
-        let order = self.order.as_slice();
         Ok(Space {
             params: self.params.copy()?,
             conditions: self.conditions.copy()?,
             forbidden: self.forbidden.copy()?,
-            order: Items::new(order.to_vec(*self.order.allocator())?),
+            order: self.order.copy()?,
         })
     }
 

@@ -31,7 +31,7 @@ fn example_run(alloc: Global) -> Result<Run, Memory> {
         instance: Text::of(alloc, "one")?,
         specifics: Text::of(alloc, "0")?,
         seed: 3,
-        settings: Items::new(Vec::new(alloc)),
+        settings: Items::new(Vec::new(alloc))?,
     };
     Ok(Run {
         key,

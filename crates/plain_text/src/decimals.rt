@@ -41,7 +41,7 @@ pub fn seconds_text(alloc: Global, micros: u64) -> Result<Text, Memory>
         micros / 1000 % 10,
     );
     let (d, e, f) = (micros / 100 % 10, micros / 10 % 10, micros % 10);
-    Ok(Text::new(format!(in alloc; "{whole}.{a}{b}{c}{d}{e}{f}")?))
+    Text::new(format!(in alloc; "{whole}.{a}{b}{c}{d}{e}{f}")?)
 }
 
 /// Appends a time in microseconds as whole seconds, a point and six digits. After want of

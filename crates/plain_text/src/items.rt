@@ -4,29 +4,26 @@ ghost use Rattle.std.specs.Prelude.{◌≡◌, IfOk};
 use objective::Memory;
 use std::alloc::Global;
 use std::marker::Model;
+use std::sync::Arc;
 
-/// A value that has copies.
-pub trait Copied: Sized {
-    /// The same value.
-    fn copied(&self) -> Result<Self, Memory>
-        ensures { IfOk result (λ c. c ≡ self.now) };
-}
-
-/// A list that contracts see as the list of its values. It keeps its allocator.
+/// A list that contracts see as the list of its values. Copies share it.
 #[derive(Drop)]
-pub struct Items<T> {
-    inner: Vec<T>,
+pub struct Items<T>
+where
+    T: Drop,
+{
+    inner: Arc<Vec<T>>,
 }
 
-impl<T> Model for Items<T> {
+impl<T: Drop> Model for Items<T> {
     ghost use Rattle.std.specs.Prelude.{List};
 
     ghost Value = { List T };
 
-    ghost view = { λ s. s.inner.items };
+    ghost view = { λ s. s.inner.value.items };
 }
 
-impl<T: PartialEq> PartialEq for Items<T> {
+impl<T: PartialEq + Drop> PartialEq for Items<T> {
     ghost use Rattle.std.specs.Cmp.Lexicographic.{pointwise};
     ghost use Rattle.std.specs.Cmp.Rules.{comparing};
     ghost use Rattle.std.proofs.Common.{rules};
@@ -40,19 +37,31 @@ impl<T: PartialEq> PartialEq for Items<T> {
     }
 }
 
-impl<T: Eq> Eq for Items<T> {
+impl<T: Eq + Drop> Eq for Items<T> {
     ghost use Rattle.std.specs.Cmp.Rules.{comparing};
     ghost use Rattle.std.proofs.Common.{rules};
 
     ghost laws = { Prim.search (comparing, rules) };
 }
 
-impl<T> Items<T> {
-    /// The list of these values. Takes no memory.
-    pub fn new(inner: Vec<T>) -> Items<T>
-        ensures { result ≡ inner.items }
+impl<T: Drop> Items<T> {
+    /// The list of these values.
+    pub fn new(inner: Vec<T>) -> Result<Items<T>, Memory>
+        ensures { IfOk result (λ list. list ≡ inner.items) }
     {
-        Items { inner }
+        let alloc = *inner.allocator();
+        Ok(Items {
+            inner: Arc::new(alloc, inner)?,
+        })
+    }
+
+    /// The same list, shared. Takes no memory.
+    pub fn copy(&self) -> Result<Items<T>, Memory>
+        ensures { IfOk result (λ c. c ≡ self.now) }
+    {
+        Ok(Items {
+            inner: self.inner.clone()?,
+        })
     }
 
     /// The values in order.
@@ -65,18 +74,5 @@ impl<T> Items<T> {
     /// The allocator that the list keeps.
     pub fn allocator(&self) -> &Global {
         self.inner.allocator()
-    }
-}
-
-impl<T: Copied + Drop> Items<T> {
-    /// The same list. Each value is copied.
-    pub fn copy(&self) -> Result<Items<T>, Memory>
-        ensures { IfOk result (λ c. c ≡ self.now) }
-    {
-        let mut copies = Vec::new(*self.inner.allocator());
-        for value in self.as_slice() {
-            copies.push(value.copied()?)?;
-        }
-        Ok(Items::new(copies))
     }
 }

@@ -21,7 +21,7 @@ pub use breaks::first_line;
 pub use comments::uncommented;
 pub use cuts::{after_prefix, parted};
 pub use decimals::{all_digits, push_seconds, read_count, seconds_text};
-pub use items::{Copied, Items};
+pub use items::Items;
 pub use limits::MAX_BYTES;
 pub use line_positions::{Line, TextLines, lines};
 pub use line_texts::{NumberedLine, NumberedLines, numbered_lines};

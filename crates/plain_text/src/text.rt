@@ -1,15 +1,15 @@
 //! A text that contracts see as its bytes.
 ghost use Rattle.std.specs.Prelude.{◌≡◌, IfOk, string_bytes};
 
-use crate::items::Copied;
 use objective::Memory;
 use std::alloc::Global;
 use std::marker::Model;
+use std::sync::Arc;
 
-/// A UTF-8 text that contracts see as the list of its bytes. It keeps its allocator.
+/// A UTF-8 text that contracts see as the list of its bytes. Copies share it.
 #[derive(Drop)]
 pub struct Text {
-    inner: String,
+    inner: Arc<String>,
 }
 
 impl Model for Text {
@@ -17,7 +17,7 @@ impl Model for Text {
 
     ghost Value = { List ℕ };
 
-    ghost view = { λ t. string_bytes t.inner };
+    ghost view = { λ t. string_bytes t.inner.value };
 }
 
 impl PartialEq for Text {
@@ -42,20 +42,21 @@ impl Eq for Text {
 }
 
 impl Text {
-    /// This text. Takes no memory.
-    pub fn new(inner: String) -> Text
-        ensures { result ≡ string_bytes inner }
+    /// This text.
+    pub fn new(inner: String) -> Result<Text, Memory>
+        ensures { IfOk result (λ t. t ≡ string_bytes inner) }
     {
-        Text { inner }
+        let alloc = *inner.allocator();
+        Ok(Text {
+            inner: Arc::new(alloc, inner)?,
+        })
     }
 
     /// A copy of these characters.
     pub fn of(alloc: Global, characters: &str) -> Result<Text, Memory>
         ensures { IfOk result (λ t. t ≡ characters.now) }
     {
-        Ok(Text {
-            inner: String::from_str(alloc, characters)?,
-        })
+        Text::new(String::from_str(alloc, characters)?)
     }
 
     /// The characters.
@@ -65,18 +66,12 @@ impl Text {
         self.inner.as_str()
     }
 
-    /// The same text.
+    /// The same text, shared. Takes no memory.
     pub fn copy(&self) -> Result<Text, Memory>
         ensures { IfOk result (λ t. t ≡ self.now) }
     {
         Ok(Text {
             inner: self.inner.clone()?,
         })
-    }
-}
-
-impl Copied for Text {
-    fn copied(&self) -> Result<Text, Memory> {
-        self.copy()
     }
 }

@@ -116,7 +116,9 @@ impl<P: Search, S: Spawner> Board<P, S> {
         ensures few { self.now.problem.rules.max_runs ≤ max_runs }
     {
         let _ = &self.problem.rules.max_runs; // its type keeps it in range
-        let key = self.problem.key_of(*self.wishes.allocator(), &cell)?;
+        let earlier = self.ledger.settings_like(&cell.config);
+        let alloc = *self.wishes.allocator();
+        let key = self.problem.key_like(alloc, &cell, earlier)?;
         Ok(Ticket {
             number: self.ledger.next(),
             cell,

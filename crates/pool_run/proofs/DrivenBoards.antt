@@ -71,7 +71,7 @@ order-last (x ∷ xs) ys order = order-last xs ys (IsNonDecreasingBy-drop (λ n.
 -- the places of events are those of the ones that took a ticket
 places-takes : (events : List Event) → asks_taken events ≡ asks_taken (filter is_take events)
 places-takes [] = refl
-places-takes (Take number kind cell cutoff asked_at ∷ events) = ap (λ ps. asked_at ∷ ps) (places-takes events)
+places-takes (Take kind number cell cutoff asked_at ∷ events) = ap (λ ps. asked_at ∷ ps) (places-takes events)
 places-takes (e ∷ events) = places-takes events
 
 -- those of tickets
@@ -82,7 +82,7 @@ places-tickets (t ∷ tickets) = ap (λ ps. t.place ∷ ps) (places-tickets tick
 -- a ticket that was asked for is due where its event is
 due-asked : (limits : Bounds) (T : Table) (asks : List Question) (t : Ticket) → t.kind ≡ Asked → IsDueTake limits T asks (take_event t) → IsDueTicket limits T asks t
 due-asked limits T asks t asked due =
-    let P : Kind → Type 0 = λ kind. IsDueTake limits T asks (Take t.number kind t.cell t.run.cutoff t.place) in
+    let P : Kind → Type 0 = λ kind. IsDueTake limits T asks (Take kind t.number t.cell t.run.cutoff t.place) in
     subst P asked due
 
 -- so are all

@@ -37,5 +37,5 @@ pub fn words_between(alloc: Global, text: &str) -> Result<Vec<Text>, Memory> {
 pub fn numbers(alloc: Global, numbers: &[u32]) -> Result<Items<u32>, Memory>
     ensures { IfOk result (λ list. list ≡ numbers.now) }
 {
-    Ok(Items::new(Vec::from_slice(alloc, numbers)?))
+    Items::new(Vec::from_slice(alloc, numbers)?)
 }

@@ -40,7 +40,7 @@ fn example_run(alloc: Global) -> Result<Run, Memory> {
         instance: Text::of(alloc, "one")?,
         specifics: Text::of(alloc, "0")?,
         seed: 1,
-        settings: Items::new(settings),
+        settings: Items::new(settings)?,
     };
     Ok(Run {
         key,

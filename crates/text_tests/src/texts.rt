@@ -207,7 +207,7 @@ fn are_listed(alloc: Global, texts: &[Text]) -> Result<bool, Memory> {
 
 /// Whether the copied words of a text are found.
 fn are_copied(alloc: Global) -> Result<bool, Memory> {
-    let texts = Items::new(words_between(alloc, "a|b|c")?);
+    let texts = Items::new(words_between(alloc, "a|b|c")?)?;
     let copy = texts.copy()?;
     are_listed(alloc, copy.as_slice())
 }

@@ -64,7 +64,7 @@ impl<'a, R: Clock> PlannedSeat<'a, R> {
             alloc,
             plan,
             counts: Arc::try_clone(counts)?,
-            child: MemoryChild::new(alloc),
+            child: MemoryChild::new(alloc)?,
             fate: Fate::Ends,
             is_slow: false,
             looks: 0,

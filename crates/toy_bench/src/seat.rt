@@ -40,7 +40,7 @@ impl ToySeat {
     {
         Ok(ToySeat {
             alloc,
-            child: MemoryChild::new(alloc),
+            child: MemoryChild::new(alloc)?,
             looks: 0,
         })
     }

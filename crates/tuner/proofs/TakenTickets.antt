@@ -30,12 +30,12 @@ own_event t =
 
 -- an event by which a ticket is taken is its own
 pub taking : (t : Ticket) (event : Event) → takes t event ≡ true → event ≡ take_event t
-taking t (Take number kind cell cutoff place) taken =
+taking t (Take kind number cell cutoff place) taken =
     let numbers = Decides-and _ _ (Decides-eqb number t.number) (Decides-eqb place t.place) in
     let kinds = Decides-and _ _ numbers (same_kind-Decides kind t.kind) in
     let cells = Decides-and _ _ kinds (same_cell-Decides cell t.cell) in
     let p = (Decides-and _ _ cells (Decides-eqb cutoff.0 t.run.cutoff.0)).0 taken in
-    λ i. Take (p.0.0.0.0 i) (p.0.0.1 i) (p.0.1 i) (record { 0 = p.1 i }) (p.0.0.0.1 i)
+    λ i. Take (p.0.0.1 i) (p.0.0.0.0 i) (p.0.1 i) (record { 0 = p.1 i }) (p.0.0.0.1 i)
 taking t e taken = absurd (false≢true taken)
 
 -- an event of another ticket isn't of this one

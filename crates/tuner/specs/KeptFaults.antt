@@ -43,7 +43,7 @@ pub record HasFault (task : Task) (truth : Option (Key → Outcome)) (before aft
 
 -- the event is that this ticket was taken
 abbrev pub takes : Ticket → Event → Bool
-takes t (Take number kind cell cutoff place) = (number == t.number)
+takes t (Take kind number cell cutoff place) = (number == t.number)
     && (place == t.place)
     && same_kind kind t.kind
     && same_cell cell t.cell

@@ -7,7 +7,7 @@ ghost use Rattle.plain_text.specs.Words.{is_blank};
 ghost use Rattle.wrapper_lines.specs.Runs;
 
 use objective::{Memory, Micros};
-use plain_text::{Copied, Items, Text, pieces, seconds_text};
+use plain_text::{Items, Text, pieces, seconds_text};
 use std::alloc::Global;
 
 /// The program that is tuned.
@@ -53,7 +53,7 @@ pub struct Run {
 }
 
 impl Setting {
-    /// The same setting.
+    /// The same setting, shared. Takes no memory.
     pub fn copy(&self) -> Result<Setting, Memory>
         ensures { IfOk result (λ s. s ≡ self.now) }
     {
@@ -62,14 +62,8 @@ impl Setting {
     }
 }
 
-impl Copied for Setting {
-    fn copied(&self) -> Result<Setting, Memory> {
-        self.copy()
-    }
-}
-
 impl Key {
-    /// The same key.
+    /// The same key, shared. Takes no memory.
     pub fn copy(&self) -> Result<Key, Memory>
         ensures { IfOk result (λ k. k ≡ self.now) }
     {
@@ -85,7 +79,7 @@ impl Key {
 }
 
 impl Run {
-    /// The same run.
+    /// The same run, its key shared. Takes no memory.
     pub fn copy(&self) -> Result<Run, Memory>
         ensures { IfOk result (λ r. r ≡ self.now) }
     {
@@ -148,7 +142,7 @@ pub fn read_program(
     }
     let dir = Text::of(alloc, dir)?;
     Ok(Program {
-        words: Items::new(words),
+        words: Items::new(words)?,
         dir,
         cutoff_length,
     })
@@ -158,7 +152,7 @@ pub fn read_program(
 fn number_text(alloc: Global, number: u32) -> Result<Text, Memory>
     ensures { IfOk result (λ t. t ≡ decimal number) }
 {
-    Ok(Text::new(format!(in alloc; "{number}")?))
+    Text::new(format!(in alloc; "{number}")?)
 }
 
 /// Appends `-name` and the value of each setting.
@@ -167,7 +161,7 @@ fn push_settings(alloc: Global, words: &mut Vec<Text>, settings: &[Setting]) -> 
 {
     for setting in settings {
         let name = setting.name.as_str();
-        words.push(Text::new(format!(in alloc; "-{name}")?))?;
+        words.push(Text::new(format!(in alloc; "-{name}")?)?)?;
         words.push(setting.value.copy()?)?;
     }
     Ok(())

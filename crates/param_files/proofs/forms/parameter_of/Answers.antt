@@ -18,9 +18,9 @@ pub returns : goal.returns
 returns c =
     let list = c.in-Some.list in
     let rest = left c.args.tokens.now 2 in
-    parameter_with c.args.tokens.now list.values.items (drop list.taken (texts rest)) c.new.result c.in_ok-of.field-0 c.in_ok-of-2.field-0 c.in-len2-up.len_at_least
+    parameter_with c.args.tokens.now list.values.items (drop list.taken (texts rest)) c.in_ok-new.field-0 c.in_ok-of.field-0 c.in_ok-of-2.field-0 c.in-len2-up.len_at_least
     (sym c.if-not-is_word.false ∙ c.is_word.ensures)
     (sym (not-false _ (sym c.ne.ensures ∙ c.if-ne.false)))
     (ap (option_map (λ l. (l.values.items, drop l.taken (texts rest)))) (sym c.in-Some.is) ∙ c.in_ok-list.ensures.value)
     (ap Some c.in_ok-of-2.ensures ∙ c.in-Some-default_of.ensures ∙ ap default_of (texts-left rest list.taken))
-    c.in_ok-of.ensures c.new.ensures
+    c.in_ok-of.ensures c.in_ok-new.ensures

@@ -1,4 +1,4 @@
-use Rattle.std.proofs.Common.{◌∙◌, ◌∷◌, [], false, arith, sym, ap, get_or, map}
+use Rattle.std.proofs.Common.{◌∙◌, ◌∷◌, [], false, arith, refl, sym, ap, get_or, map}
 use Rattle.std.specs.List.{slice_index_or}
 use Rattle.std.proofs.lemmas.List.{map-append}
 use Rattle.param_space.specs.Settings.{name_and_value}
@@ -21,15 +21,15 @@ loop-i-preserved c =
     elim c.if-active-i.branch [
       | then-active-i+in_ok-push w ↦
           ap (λ v. map name_and_value v.items) w.found-is ∙ ap (map name_and_value) w.in_ok-push.ensures.items
-          ∙ map-append name_and_value c.loop-i.found.items (record { name = w.as_str.result; value = w.as_str-then-active-i.result } ∷ [])
-          ∙ one_read c.args.active.now c.args.params.now c.args.values.now c.loop-i.i c.index-params-i.result w.as_slice.result.now w.index-as_slice-from.result w.as_str.result.now w.as_str-then-active-i.result.now _ (record {
+          ∙ map-append name_and_value c.loop-i.found.items (_ ∷ [])
+          ∙ one_read c.args.active.now c.args.params.now c.args.values.now c.loop-i.i c.index-params-i.result w.as_slice.result.now w.index-as_slice-from.result c.index-params-i.result.name w.index-as_slice-from.result _ (record {
             belongs = c.requires.belongs;
             within = c.loop-i-test.true;
             is = c.index-params-i.is;
             texts-are = w.as_slice.ensures;
             read = w.index-as_slice-from.is ∙ ap (λ k. get_or w.as_slice.result.now k w.index-as_slice-from.result) w.from.ensures;
-            name-is = w.as_str.ensures;
-            value-is = w.as_str-then-active-i.ensures;
+            name-is = refl;
+            value-is = refl;
             marked = w.if-active-i.true;
           }) c.loop-i.invariant
       | else-active-i w ↦
