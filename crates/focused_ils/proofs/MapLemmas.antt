@@ -1,5 +1,5 @@
 -- Entries of maps, one list after another, as a finite map.
-use Rattle.std.proofs.Common.{◌≡◌, ℕ, Bool, true, false, cond, [], ◌∷◌, ◌++◌, Option, Some, None, bytes_eq, refl, sym, ◌∙◌, ap, subst, length, max}
+use Rattle.std.proofs.Common.{◌≡◌, ◌<◌, ◌≤◌, arith, ℕ, Bool, true, false, cond, [], ◌∷◌, ◌++◌, Option, Some, None, bytes_eq, refl, sym, ◌∙◌, ap, subst, length, max}
 use Rattle.std.proofs.lemmas.List.{append_assoc}
 use Rattle.std.specs.Prelude.{Result, Ok, Err, OnOk}
 use Rattle.std.specs.Ordering.{nat_cmp}
@@ -14,7 +14,7 @@ use Rattle.std.proofs.lemmas.Map.Made.{update_all_distinct}
 use Rattle.indexmap.specs.IndexMap.{IndexMap, insert_entry}
 use Rattle.indexmap.proofs.CallerLemmas.{insert_entry-new}
 use Rattle.uncapped.specs.Procedure.{Settings}
-use Rattle.focused_ils.specs.Laws.Counting.{other_way}
+use Rattle.focused_ils.specs.Laws.Counting.{other_way, same_config}
 use Rattle.focused_ils.specs.Counts.{Counts, count_of, count_in, raised, Pairs, at, IsPut}
 
 -- the entries as a finite map; the first one of a configuration counts
@@ -123,3 +123,24 @@ gathered first others rest all distinct inserted none =
     ∙ map.same_map nat_list_cmp_total (map.slice_cmp-IsAntisymmetric map.nat_cmp-IsAntisymmetric) (map_of all) (map_of (first ++ others))
     (λ θ. get-map_of θ all ∙ inserted θ ∙ update_all_distinct nat_list_eq_equiv bytes_eq (λ x y. refl) (λ k. at k others) first θ distinct
     ∙ sym (at-append θ first others) ∙ sym (get-map_of θ (first ++ others)))
+
+-- ---- a count that isn't less already
+
+of-count : (o : Option ℕ) (runs : ℕ) → runs ≡ count_of o → 0 < runs → o ≡ Some runs
+of-count None runs e positive = absurd (omega (arith, e, positive))
+of-count (Some m) runs e positive = ap Some (sym e)
+
+kept-at : (b : Bool) (m : ℕ) (o : Option ℕ) → (b ≡ true → o ≡ Some m) → cond b (Some m) o ≡ o
+kept-at true m o h = sym (h refl)
+kept-at false m o h = refl
+
+-- the counts stay where a configuration has so many runs
+pub raised-kept : (counts : Counts) (k : Settings) (n runs : ℕ) → runs ≡ count_in counts k → 0 < runs → n ≤ runs → raised counts k n ≡ counts
+raised-kept counts k n runs is positive enough =
+    let most : max (count_in counts k) n ≡ runs = omega (arith, is, enough) in
+    let here : map.get counts k ≡ Some runs = of-count (map.get counts k) runs is positive in
+    ap (map.insert counts k) most
+    ∙ map.same_map nat_list_cmp_total (map.slice_cmp-IsAntisymmetric map.nat_cmp-IsAntisymmetric) (map.insert counts k runs) counts
+    (λ q. map.get-insert nat_list_cmp_total counts k runs q
+    ∙ ap (λ b. cond b (Some runs) (map.get counts q)) (sym (texts_ties q k))
+    ∙ kept-at (bytes_eq q k) runs (map.get counts q) (λ t. ap (map.get counts) (same_config q k t) ∙ here))

@@ -100,7 +100,11 @@ impl Counts {
         ensures err { OnErr result (self.new ≡ self.old) }
     {
         self.gather()?;
-        let runs = self.runs(&config).max(n);
+        let known = self.runs(&config);
+        if 0 < known && n <= known {
+            return Ok(());
+        }
+        let runs = known.max(n);
         if !self.further.is_empty() {
             self.further.insert(config, runs)?;
             return Ok(());
