@@ -11,6 +11,8 @@ use Rattle.tune_front.specs.declared.reading.refusal.Refusal.{Refusal}
 use Rattle.tune_front.specs.declared.reading.refusal.Refusal.TheVariants.{BadFile, ReadFault, Memory}
 use Rattle.tune_front.specs.declared.status.FileKind.{FileKind}
 use Rattle.tune_front.specs.declared.status.FileKind.TheVariants as kind
+use Rattle.tune_front.specs.declared.status.What.{What}
+use Rattle.tune_front.specs.declared.task.Task.{Task}
 
 -- the words and their scenario file, where the files are told, state this scenario
 abbrev pub StatesScenario : Words → Option Contents → Scenario → Type 0
@@ -56,3 +58,25 @@ refused_on words scenario files files' after (ReadFault k name) same low stated 
     let rose : Rose files'.faults after.faults = h.0 in
     (omega (arith, rose, low), next_on words scenario files k name stated (next_also scenario files files' k name same h.1))
 refused_on words scenario files files' after Memory same low stated h = tt
+
+-- the task by the scenario is the task by the words
+pub given_on : (words : Words) (scenario : Scenario) (files files' : FilesTold) (task : Task) → files'.contents ≡ files.contents
+    → Gives (scenario_reading words.scenario_file words.draft) files scenario → Gives (task_in scenario) files' task → Gives (task_by words) files task
+given_on words scenario files files' task same stated h =
+    let P : Option Contents → Type 0 = λ t. IfSome t (λ c. task_in scenario c ≡ Reads task) in
+    read_on words scenario files.contents task_in (Reads task) stated (subst P same h)
+
+-- ---- a reading that others come after
+
+bad_on : {A B : Type 0} (reading : Contents → Reading A) (further : Contents → A → Reading B) (told : Option Contents)
+    (k : FileKind) (name : List ℕ) (line : ℕ) (what : What) → IfSome told (λ c. reading c ≡ Bad k name line what)
+    → IfSome told (λ c. (reading c >>= further c) ≡ Bad k name line what)
+bad_on reading further None k name line what h = tt
+bad_on reading further (Some c) k name line what h = ap (λ r. r >>= further c) h
+
+-- a refusal of the first is one of the whole
+pub caused_on : {A B : Type 0} (reading : Contents → Reading A) (further : Contents → A → Reading B) (IsName : FileKind → List ℕ → Type 0)
+    (files files' : FilesTold) (e : Refusal) → IsCause reading IsName files files' e → IsCause (λ c. reading c >>= further c) IsName files files' e
+caused_on reading further IsName files files' (BadFile k name line what) h = bad_on reading further files.contents k name line what h
+caused_on reading further IsName files files' (ReadFault k name) h = h
+caused_on reading further IsName files files' Memory h = h
