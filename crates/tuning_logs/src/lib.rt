@@ -2,5 +2,7 @@
 #![tactic(auto)]
 
 mod entry_lines;
+mod run_log;
 
 pub use entry_lines::{push_end, push_entry};
+pub use run_log::{RunRow, push_header, push_row, push_rows};
