@@ -16,6 +16,11 @@ pub record LoggedRun : Type 0 where
   pub answer : Answer
   pub config : List ℕ
 
+-- a recorded run, by its parts
+abbrev pub logged_run : ℕ → ℕ → ℕ → Answer → List ℕ → LoggedRun
+logged_run number place cutoff answer config =
+    record { number = number; place = place; cutoff = cutoff; answer = answer; config = config }
+
 -- the word for an answer
 abbrev pub answer_word : Answer → List ℕ
 answer_word (answer.Solved time) = codes "SOLVED"

@@ -7,7 +7,7 @@ ghost use Rattle.plain_text.specs.Decimals.{seconds};
 ghost use Rattle.param_space.specs.Space.{Belongs};
 ghost use Rattle.tuning_logs.specs.EntryLines.{settings_of};
 ghost use Rattle.tuning_logs.specs.RunLog;
-ghost use Rattle.tuning_logs.specs.RunLog.{header_line, fields_text, row_line, row_lines, answer_word, time_of};
+ghost use Rattle.tuning_logs.specs.RunLog.{header_line, fields_text, row_line, row_lines, answer_word, time_of, logged_run};
 ghost use Rattle.tuning_logs.specs.FieldBytes.{is_plain, is_setting_byte};
 
 use csv::WriterBuilder;
@@ -138,16 +138,24 @@ fn fields_line(
 }
 
 /// The line of a recorded run.
-fn line_of(alloc: Global, space: &Space, row: &RunRow) -> Result<Vec<u8>, Memory>
-    requires { Belongs space.now.params row.now.config }
-    ensures { IfOk result (λ line. line.items ≡ row_line space.now row.now) }
+fn line_of(
+    alloc: Global,
+    space: &Space,
+    number: u64,
+    place: u32,
+    cutoff: Micros,
+    answer: Answer,
+    config: &Config,
+) -> Result<Vec<u8>, Memory>
+    requires { Belongs space.now.params config.now }
+    ensures { IfOk result (λ line. line.items ≡ row_line space.now (logged_run number place cutoff.0 answer config.now)) }
 {
-    let number = number_text(alloc, row.number)?;
-    let place = number_text(alloc, u64::from(row.place))?;
-    let cutoff = time_text(alloc, row.cutoff.0)?;
-    let word = word_of(row.answer);
-    let time = time_text(alloc, micros_of(row.answer))?;
-    let settings = settings_bytes(alloc, space, &row.config)?;
+    let number = number_text(alloc, number)?;
+    let place = number_text(alloc, u64::from(place))?;
+    let cutoff = time_text(alloc, cutoff.0)?;
+    let word = word_of(answer);
+    let time = time_text(alloc, micros_of(answer))?;
+    let settings = settings_bytes(alloc, space, config)?;
     fields_line(
         alloc,
         number.as_str(),
@@ -159,15 +167,50 @@ fn line_of(alloc: Global, space: &Space, row: &RunRow) -> Result<Vec<u8>, Memory
     )
 }
 
+/// Appends the line of the recorded run of a ticket, with this number, at a place. After want of
+/// memory `out` is as it was.
+pub fn push_run(
+    space: &Space,
+    number: u64,
+    place: u32,
+    cutoff: Micros,
+    answer: Answer,
+    config: &Config,
+    out: &mut Vec<u8>,
+) -> Result<(), Memory>
+    requires { Belongs space.now.params config.now }
+    ensures ok { let run = logged_run number place cutoff.0 answer config.now in
+        OnOk result (out.new.items ≡ out.old.items ++ row_line space.now run) }
+    ensures err { OnErr result (out.new.items ≡ out.old.items) }
+{
+    let line = line_of(
+        *out.allocator(),
+        space,
+        number,
+        place,
+        cutoff,
+        answer,
+        config,
+    )?;
+    out.extend_from_slice(line.as_slice())?;
+    Ok(())
+}
+
 /// Appends the line of a recorded run. After want of memory `out` is as it was.
 pub fn push_row(space: &Space, row: &RunRow, out: &mut Vec<u8>) -> Result<(), Memory>
     requires { Belongs space.now.params row.now.config }
     ensures ok { OnOk result (out.new.items ≡ out.old.items ++ row_line space.now row.now) }
     ensures err { OnErr result (out.new.items ≡ out.old.items) }
 {
-    let line = line_of(*out.allocator(), space, row)?;
-    out.extend_from_slice(line.as_slice())?;
-    Ok(())
+    push_run(
+        space,
+        row.number,
+        row.place,
+        row.cutoff,
+        row.answer,
+        &row.config,
+        out,
+    )
 }
 
 /// Appends the first line of a run log. After want of memory `out` is as it was.
