@@ -1,0 +1,3 @@
+pub mod LoggedRuns
+pub mod LoggedCosts
+pub mod LoggedBoards

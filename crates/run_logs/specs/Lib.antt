@@ -1,0 +1,2 @@
+pub mod LoggedRuns
+pub mod LoggedCosts

@@ -1,0 +1,3 @@
+pub mod SpaceWords
+pub mod SettingsBytes
+mod FieldTexts
