@@ -30,7 +30,7 @@ numbered-runs number (run ∷ runs) = ap (λ rs. run ∷ rs) (numbered-runs numb
 runs-in_event : (before : List Event) (e : Event) → runs_in (logged_in before e) ≡ recorded_in before e
 runs-in_event before (Record number answer) = numbered-runs number (recorded_in before (Record number answer))
 runs-in_event before Advance = refl
-runs-in_event before (Take number kind cell cutoff asked_at) = refl
+runs-in_event before (Take kind number cell cutoff asked_at) = refl
 runs-in_event before (Lost number) = refl
 runs-in_event before (Mark number) = refl
 runs-in_event before (Killed number) = refl
@@ -61,11 +61,11 @@ counts-few false = omega arith
 taken-count : (n : ℕ) (journal : List Event) → length (filter (takes n) journal) ≡ count_by (λ m. m == n) (numbers_taken journal)
 taken-count n [] = refl
 taken-count n (Advance ∷ journal) = taken-count n journal
-taken-count n (Take number kind cell cutoff asked_at ∷ journal) =
+taken-count n (Take kind number cell cutoff asked_at ∷ journal) =
     at_either (number == n) (taken-count n journal) ∙ sym (sum_by-cons (λ m. cond (m == n) 1 0) number (numbers_taken journal))
   where
     at_either : (b : Bool) → length (filter (takes n) journal) ≡ count_by (λ m. m == n) (numbers_taken journal)
-        → length (cond b (Take number kind cell cutoff asked_at ∷ filter (takes n) journal) (filter (takes n) journal))
+        → length (cond b (Take kind number cell cutoff asked_at ∷ filter (takes n) journal) (filter (takes n) journal))
         ≡ cond b 1 0 + count_by (λ m. m == n) (numbers_taken journal)
     at_either true e = omega (arith, e)
     at_either false e = omega (arith, e)
@@ -109,7 +109,7 @@ counted n rows = count_by (λ row. row.number == n) rows
 -- an event takes at most one run
 length-taken : (answer : Answer) (es : List Event) → length (flat_map (run_taken answer) es) ≤ length es
 length-taken answer [] = omega arith
-length-taken answer (Take number kind cell cutoff asked_at ∷ es) = omega (arith, length-taken answer es)
+length-taken answer (Take kind number cell cutoff asked_at ∷ es) = omega (arith, length-taken answer es)
 length-taken answer (Advance ∷ es) = omega (arith, length-taken answer es)
 length-taken answer (Record number shown ∷ es) = omega (arith, length-taken answer es)
 length-taken answer (Lost number ∷ es) = omega (arith, length-taken answer es)
@@ -131,7 +131,7 @@ count-event n before (Record number answer) once =
     let taken = filter (takes number) before in
     omega (arith, count-one number n (flat_map (run_taken answer) taken) (omega (arith, once number, length-taken answer taken)))
 count-event n before Advance once = omega arith
-count-event n before (Take number kind cell cutoff asked_at) once = omega arith
+count-event n before (Take kind number cell cutoff asked_at) once = omega arith
 count-event n before (Lost number) once = omega arith
 count-event n before (Mark number) once = omega arith
 count-event n before (Killed number) once = omega arith
@@ -190,14 +190,14 @@ IsWithinFull full run = run.cutoff ≤ full
 within-taken : (rules : Rules) (answer : Answer) (number : ℕ) (before : List Event) → All (IsRunnableTake rules) before
     → All (IsWithinFull rules.limits.cutoff) (flat_map (run_taken answer) (filter (takes number) before))
 within-taken rules answer number [] all = All-nil (IsWithinFull rules.limits.cutoff)
-within-taken rules answer number (Take taken kind cell cutoff asked_at ∷ before) all =
-    at_either (taken == number) (within-taken rules answer number before (All-tail (IsRunnableTake rules) (Take taken kind cell cutoff asked_at) before all))
+within-taken rules answer number (Take kind taken cell cutoff asked_at ∷ before) all =
+    at_either (taken == number) (within-taken rules answer number before (All-tail (IsRunnableTake rules) (Take kind taken cell cutoff asked_at) before all))
   where
     at_either : (b : Bool) → All (IsWithinFull rules.limits.cutoff) (flat_map (run_taken answer) (filter (takes number) before))
         → All (IsWithinFull rules.limits.cutoff)
-        (flat_map (run_taken answer) (cond b (Take taken kind cell cutoff asked_at ∷ filter (takes number) before) (filter (takes number) before)))
+        (flat_map (run_taken answer) (cond b (Take kind taken cell cutoff asked_at ∷ filter (takes number) before) (filter (takes number) before)))
     at_either true rest = All-cons (IsWithinFull rules.limits.cutoff) (record { cell = cell; cutoff = cutoff.0; answer = answer }) (flat_map (run_taken answer) (filter (takes number) before))
-        (All-head (IsRunnableTake rules) (Take taken kind cell cutoff asked_at) before all).in_range.at_most rest
+        (All-head (IsRunnableTake rules) (Take kind taken cell cutoff asked_at) before all).in_range.at_most rest
     at_either false rest = rest
 within-taken rules answer number (Advance ∷ before) all = within-taken rules answer number before (All-tail (IsRunnableTake rules) Advance before all)
 within-taken rules answer number (Record ended shown ∷ before) all = within-taken rules answer number before (All-tail (IsRunnableTake rules) (Record ended shown) before all)
@@ -210,7 +210,7 @@ within-taken rules answer number (Resume ∷ before) all = within-taken rules an
 within-event : (rules : Rules) (before : List Event) (e : Event) → All (IsRunnableTake rules) before → All (IsWithinFull rules.limits.cutoff) (recorded_in before e)
 within-event rules before (Record number answer) all = within-taken rules answer number before all
 within-event rules before Advance all = All-nil (IsWithinFull rules.limits.cutoff)
-within-event rules before (Take number kind cell cutoff asked_at) all = All-nil (IsWithinFull rules.limits.cutoff)
+within-event rules before (Take kind number cell cutoff asked_at) all = All-nil (IsWithinFull rules.limits.cutoff)
 within-event rules before (Lost number) all = All-nil (IsWithinFull rules.limits.cutoff)
 within-event rules before (Mark number) all = All-nil (IsWithinFull rules.limits.cutoff)
 within-event rules before (Killed number) all = All-nil (IsWithinFull rules.limits.cutoff)

@@ -36,7 +36,8 @@ use Rattle.tuner.specs.AbortCauses.{IsCell, IsAbortCause}
 use Rattle.tuner.specs.Calls.{Call}
 use Rattle.tuner.specs.CallStarts.{StartsOf}
 use Rattle.tune_front.specs.RefusalLines.{no_memory_line}
-use Rattle.tuner.specs.Lines.{lines_with, all_lines, aborted_line, child_fault_line}
+use Rattle.tuning_logs.specs.EntryLines.{all_lines}
+use Rattle.tuner.specs.Lines.{lines_with, aborted_line, child_fault_line}
 use Rattle.tune_front.specs.SaidTexts.{Reported}
 use Rattle.tuner.specs.PrintedTexts.{after_entries}
 use Rattle.tuner.specs.Conducted.{Conducted, Runs}

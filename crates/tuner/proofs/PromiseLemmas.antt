@@ -21,7 +21,8 @@ use Rattle.tuner.specs.Calls.{Call, IsMisused, IsCalled, StatesTask, IsSeated}
 use Rattle.tuner.specs.CallStarts.{StartsDue, StartsOf}
 use Rattle.tuner.specs.Causes.{CauseOf, IsBadFile, IsTooFew}
 use Rattle.tune_front.specs.RefusalLines.{usage_line, bad_file_line, read_fault_line, seats_line, no_memory_line}
-use Rattle.tuner.specs.Lines.{all_lines, end_line, output_of, aborted_line, child_fault_line}
+use Rattle.tuning_logs.specs.EntryLines.{all_lines, end_line}
+use Rattle.tuner.specs.Lines.{output_of, aborted_line, child_fault_line}
 use Rattle.tune_front.specs.SaidTexts.{Said, whole, unwritten, no_memory}
 use Rattle.tuner.specs.PrintedTexts.{IsSearchText, IsAbortedText, IsNoMemoryText, alone, after_entries, IsTextOf, Printed}
 use Rattle.tuner.specs.Conducted.{Conducted}

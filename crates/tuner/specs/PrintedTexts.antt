@@ -13,7 +13,8 @@ use Rattle.tune_front.specs.SaidTexts.{Said}
 use Rattle.tuner.specs.Calls.{StatesTask}
 use Rattle.tuner.specs.KeptFaults.{IsKeptBy}
 use Rattle.tune_front.specs.RefusalLines.{no_memory_line, usage_line, bad_file_line, read_fault_line, seats_line}
-use Rattle.tuner.specs.Lines.{lines_with, all_lines, aborted_line, child_fault_line}
+use Rattle.tuning_logs.specs.EntryLines.{all_lines}
+use Rattle.tuner.specs.Lines.{lines_with, aborted_line, child_fault_line}
 use Rattle.tune_front.specs.Readings.{Bad, Gives, task_of, file_name}
 use Rattle.tuner.specs.SearchEnds.{IsTrajectoryOf, IsStoppedSearch, AreFirst}
 use Rattle.tuner.specs.Tasks.{quiet_run}

@@ -15,7 +15,8 @@ use Rattle.pool_run.specs.Seats.{SeatState}
 use Rattle.tuner.specs.AnyAnswers.{EndsAs, may_end_any_call_that_reads}
 use Rattle.tuner.specs.CallStarts.{StartsDue}
 use Rattle.tuner.specs.Calls.{call_of, IsMisused, StatesTask, IsSeated}
-use Rattle.tuner.specs.Lines.{lines_with, all_lines, output_of, aborted_line}
+use Rattle.tuning_logs.specs.EntryLines.{all_lines}
+use Rattle.tuner.specs.Lines.{lines_with, output_of, aborted_line}
 use Rattle.tune_front.specs.Readings.{Reads, Bad, task_of}
 use Rattle.tuner.specs.SearchEnds.{IsSearched, AreFirst}
 use Rattle.tuner.specs.Tasks.{true_run, quiet_run}

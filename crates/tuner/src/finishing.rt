@@ -6,6 +6,7 @@ ghost use Rattle.pool_run.specs.Drives.{is_over};
 ghost use Rattle.tuner.specs.Calls.{Call};
 ghost use Rattle.tuner.specs.CallStarts.{StartsOf};
 ghost use Rattle.tune_front.specs.RefusalLines;
+ghost use Rattle.tuning_logs.specs.EntryLines.{all_lines};
 ghost use Rattle.tuner.specs.Lines;
 ghost use Rattle.tune_front.specs.SaidTexts.{Reported};
 ghost use Rattle.tuner.specs.Conducted.{Conducted, Runs};
@@ -60,7 +61,7 @@ fn report_end<P: Search, O: Sink>(
     requires searched { let view = P.shown problem.now.rules (P.replies_of search.now) in
         IsSearched problem.now.rules view.entries view.last }
     ensures { let view = P.shown problem.now.rules (P.replies_of search.now) in
-        let lines = Lines.all_lines problem.now.rules.space view.entries view.last in
+        let lines = all_lines problem.now.rules.space view.entries view.last in
         Reported (O.told out.old) (O.told out.new) result Status.Ok lines }
 {
     let line = end_line(alloc, &problem.rules.space, search);

@@ -1,47 +1,28 @@
 //! The lines of incumbents, of an end and of a run.
-ghost use Rattle.std.specs.Prelude.{◌≡◌, ◌++◌, ◌∷◌, [], All, IfOk, codes, string_bytes};
+ghost use Rattle.std.specs.Prelude.{◌≡◌, All, IfOk};
 ghost use Rattle.std.specs.List.{flat_map};
 ghost use Rattle.param_space.specs.Space.{Belongs};
 ghost use Rattle.param_space.specs.Configurations.{IsConfig};
-ghost use Rattle.uncapped.specs.Procedure.{Incumbent};
+ghost use Rattle.tuning_logs.specs.EntryLines;
 ghost use Rattle.tuner.specs.Lines;
 
 use ils_face::{Entry, Search};
-use objective::{Memory, Sum};
+use objective::Memory;
 use param_space::{Config, Space};
-use plain_text::push_seconds;
 use std::alloc::Global;
-
-/// An incumbent's line: its comparison number, its runs, its sum in seconds and its settings.
-fn entry_line(
-    alloc: Global,
-    space: &Space,
-    compared: u32,
-    runs: u32,
-    sum: Sum,
-    config: &Config,
-) -> Result<Vec<u8>, Memory>
-    requires { Belongs space.now.params config.now }
-    ensures { let entry : Incumbent = record { compared = compared; runs = runs; sum = sum.0; config = config.now } in
-        IfOk result (λ line. line.items ≡ Lines.entry_line space.now entry) }
-{
-    let mut line = format!(in alloc; "{compared} {runs} ")?.into_bytes();
-    push_seconds(&mut line, sum.0)?;
-    line.push(b' ')?;
-    space.push_settings(config, &mut line)?;
-    line.push(b'\n')?;
-    Ok(line)
-}
+use tuning_logs::{push_end, push_entry};
 
 /// The lines of these incumbents, oldest first.
 fn entry_lines(alloc: Global, space: &Space, entries: &[Entry]) -> Result<Vec<Vec<u8>>, Memory>
     requires { All (λ e. IsConfig space.now e.config) entries.now }
-    ensures { let text = Lines.entry_lines space.now entries.now in
+    ensures { let text = EntryLines.entry_lines space.now entries.now in
         IfOk result (λ lines. flat_map (λ line. line.items) lines.items ≡ text) }
 {
     let mut lines = Vec::new(alloc);
-    for e in entries {
-        lines.push(entry_line(alloc, space, e.compared, e.runs, e.sum, &e.config)?)?;
+    for entry in entries {
+        let mut line = Vec::new(alloc);
+        push_entry(space, entry, &mut line)?;
+        lines.push(line)?;
     }
     Ok(lines)
 }
@@ -55,19 +36,16 @@ pub(crate) fn end_line<P: Search>(
     requires { let view = P.shown (P.rules_of search.now) (P.replies_of search.now) in
         IsConfig space.now view.last.config }
     ensures { let view = P.shown (P.rules_of search.now) (P.replies_of search.now) in
-        IfOk result (λ line. line.items ≡ Lines.end_line space.now view.last) }
+        IfOk result (λ line. line.items ≡ EntryLines.end_line space.now view.last) }
 {
-    let (runs, sum) = (search.incumbent_runs(), search.incumbent_sum());
-    let entry = entry_line(
-        alloc,
-        space,
-        search.compared(),
-        runs,
-        sum,
-        search.incumbent(),
-    )?;
-    let mut line = Vec::from_slice(alloc, b"end ")?;
-    line.extend_from_slice(entry.as_slice())?;
+    let last = Entry {
+        compared: search.compared(),
+        runs: search.incumbent_runs(),
+        sum: search.incumbent_sum(),
+        config: search.incumbent().copy()?,
+    };
+    let mut line = Vec::new(alloc);
+    push_end(space, &last, &mut line)?;
     Ok(line)
 }
 

@@ -82,7 +82,7 @@ fn number_text(alloc: Global, number: u64) -> Result<Text, Memory>
     ensures value { IfOk result (λ t. t ≡ decimal number) }
     ensures plain { IfOk result (λ t. list_all is_plain t ≡ true) }
 {
-    Ok(Text::new(format!(in alloc; "{number}")?))
+    Text::new(format!(in alloc; "{number}")?)
 }
 
 /// The text of a time, which holds no mark of the format.

@@ -2,7 +2,7 @@ use Rattle.std.proofs.Common.{◌∙◌, ap}
 use Rattle.std.proofs.lemmas.Result.{IfOk-weaker}
 use Rattle.uncapped.specs.Procedure.{Incumbent}
 use Rattle.ils_face.specs.Rules.{Rules}
-use Rattle.tuner.specs.Lines.{end_line}
+use Rattle.tuning_logs.specs.EntryLines.{end_line}
 use Rattle.tuner.proofs.finishing.report_end.Goals as goal
 
 pub returns : goal.returns

@@ -1,7 +1,7 @@
 use Rattle.std.proofs.Common.{ℕ, ◌≡◌, List, ◌++◌, ◌∙◌, ap, append_assoc}
 use Rattle.std.specs.Prelude.{codes}
 use Rattle.std.specs.Fmt.{decimal}
-use Rattle.tuner.specs.Lines.{settings_of}
+use Rattle.tuning_logs.specs.EntryLines.{settings_of}
 use Rattle.tuner.proofs.lines.run_line.Goals as goal
 
 -- the pieces, one after another
